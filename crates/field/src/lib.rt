@@ -1,0 +1,81 @@
+// FieldDef of dbn's layout.rs: a field of a table, decoded from its 16 bytes.
+ghost use mathlib.Core.Path.{_≡_};
+ghost use Prim.Native.Nat.{_+_, _*_, _<_, _≤_};
+ghost use lib.ListN.{length};
+ghost use Rattle.lent.specs.Bytes.{numberAt};
+ghost use Rattle.field.specs.Field.{signedByte, fieldAt, endOf, isInteger, isArray, isPlainInteger};
+
+// Bytes of a field in its table.
+pub const SIZE: usize = 16;
+
+pub struct FieldDef {
+    pub field_id: u16,
+    pub offset: u16,
+    pub size: u16,
+    pub type_id: u8,
+    pub flags: u8,
+    pub def_index: u16,
+    pub scale: i8,
+    // The number of the five last bytes, which an admitted table has at zero.
+    pub reserved: usize,
+}
+
+fn reserved_in(t: &[u8], at: usize) -> usize
+    requires { ⌜ at + 5 ≤ length (now t) ⌝ }
+    ensures { λ r. ⌜ r ≡ numberAt (now (t .entry)) at 5 ⌝ }
+{
+    let middle = at + 2;
+    let last = middle + 2;
+    let high = lent::wide16(lent::u16_in(t, middle)) + 65536 * lent::wide8(t[last]);
+    lent::wide16(lent::u16_in(t, at)) + 65536 * high
+}
+
+fn signed_byte(b: u8) -> i8
+    ensures { λ r. ⌜ r ≡ signedByte b ⌝ }
+{
+    if b < 128 {
+        return b as i8;
+    }
+    ((b as i16) - 256) as i8
+}
+
+pub fn field_in(t: &[u8], at: usize) -> FieldDef
+    requires { ⌜ at + 16 ≤ length (now t) ⌝ }
+    ensures { λ r. ⌜ r ≡ fieldAt (now (t .entry)) at ⌝ }
+{
+    FieldDef {
+        field_id: lent::u16_in(t, at),
+        offset: lent::u16_in(t, at + 2),
+        size: lent::u16_in(t, at + 4),
+        type_id: t[at + 6],
+        flags: t[at + 7],
+        def_index: lent::u16_in(t, at + 8),
+        scale: signed_byte(t[at + 10]),
+        reserved: reserved_in(t, at + 11),
+    }
+}
+
+pub fn end_of(f: FieldDef) -> usize
+    ensures { λ r. ⌜ (r ≡ endOf f) × (r < 131072) ⌝ }
+{
+    lent::wide16(f.offset) + lent::wide16(f.size)
+}
+
+fn is_integer(cat: &[u8], f: FieldDef) -> bool
+    ensures { λ r. ⌜ r ≡ isInteger (now (cat .entry)) f ⌝ }
+{
+    let class = catalogue::class_of(cat, f.type_id);
+    (class == catalogue::UNSIGNED) | (class == catalogue::SIGNED)
+}
+
+fn is_array(cat: &[u8], f: FieldDef) -> bool
+    ensures { λ r. ⌜ r ≡ isArray (now (cat .entry)) f ⌝ }
+{
+    f.flags & catalogue::array_flag(cat) != 0
+}
+
+pub fn is_plain_integer(cat: &[u8], f: FieldDef) -> bool
+    ensures { λ r. ⌜ r ≡ isPlainInteger (now (cat .entry)) f ⌝ }
+{
+    is_integer(cat, f) & !is_array(cat, f)
+}

@@ -1,0 +1,42 @@
+-- Laws of reads. Assumes nothing.
+use mathlib.Core.Path.{_≡_, refl, sym}
+use mathlib.Core.Bool.{Bool, true, false}
+use mathlib.Core.List.{List, []}
+use Prim.Native.Nat.{ℕ, zero, suc, _+_, _-_, _*_, _^_, _≤_, _<_}
+use native.Mathlib.Nat.{mul-assoc, pow-succ'}
+use native.Mathlib.Omega.{arith}
+use lib.ListN.{length, take, drop}
+use lib.Dec.{leb}
+use borrow.Author.Tests.{le-leb, lt-leb, leb-true, leb-false}
+use Rattle.lent.specs.Bytes.{byteAt, numberAt, hasWindow, partOf}
+
+-- n + m bytes hold the number of the n low ones and, above them, that of the m others
+pub number-add : (s : List ℕ) (at n m : ℕ) → numberAt s at (n + m) ≡ numberAt s at n + 256 ^ n * numberAt s (at + n) m
+number-add s at zero m =
+    let e : at + 0 ≡ at = omega arith in
+    let f : 0 + m ≡ m = omega arith in
+    rw (e, f) (omega arith)
+number-add s at (suc n) m =
+    let e : suc n + m ≡ suc (n + m) = omega arith in
+    let f : at + suc n ≡ (at + 1) + n = omega arith in
+    let g : 256 ^ suc n * numberAt s ((at + 1) + n) m ≡ 256 * (256 ^ n * numberAt s ((at + 1) + n) m) = rw (pow-succ', mul-assoc) in
+    let ih = number-add s (at + 1) n m in
+    rw (e, f, g) (omega arith)
+
+-- a window's test without the sum of its start and its size, which could wrap
+pub fits-by-difference : (at n k : ℕ) → n ≤ k → leb at (k - n) ≡ leb (at + n) k
+fits-by-difference at n k h = go (leb at (k - n)) (leb-true at (k - n)) (leb-false at (k - n)) where
+  go : (p : Bool) → (p ≡ true → at ≤ k - n) → (p ≡ false → k - n < at) → p ≡ leb (at + n) k
+  go true yes-at no-at = let z = yes-at refl in sym (le-leb (at + n) k (omega arith))
+  go false yes-at no-at = let z = no-at refl in sym (lt-leb (at + n) k (omega arith))
+
+-- a window inside is found, whether its end is computed as a sum or not
+pub part-in : (s : List ℕ) (at n : ℕ) → at + n ≤ length s → take ((at + n) - at) (drop at s) ≡ partOf s at n
+unfolding partOf
+part-in s at n h =
+    let e : (at + n) - at ≡ n = omega arith in
+    rw (le-leb (at + n) (length s) h, e)
+
+pub part-out : (s : List ℕ) (at n : ℕ) → length s < at + n → [] ≡ partOf s at n
+unfolding partOf
+part-out s at n h = rw (lt-leb (at + n) (length s) h)

@@ -1,0 +1,26 @@
+-- Lent bytes, read so that any bytes will do: past the end there is a zero, and a part that does not lie inside is empty.
+use Prim.Native.Nat.{ℕ, zero, suc, _+_, _*_}
+use mathlib.Core.Bool.{Bool, cond}
+use mathlib.Core.List.{List, []}
+use lib.Dec.{leb}
+use lib.ListN.{length, getD, take, drop}
+
+abbrev pub byteAt : List ℕ → ℕ → ℕ
+byteAt s at = getD s at 0
+
+-- the number that n bytes from `at` on hold, low first
+abbrev pub numberAt : List ℕ → ℕ → ℕ → ℕ
+numberAt s at zero = 0
+numberAt s at (suc n) = byteAt s at + 256 * numberAt s (at + 1) n
+
+-- n bytes from `at` on
+abbrev pub window : List ℕ → ℕ → ℕ → List ℕ
+window s at n = take n (drop at s)
+
+-- do they lie inside?
+abbrev pub hasWindow : List ℕ → ℕ → ℕ → Bool
+hasWindow s at n = leb (at + n) (length s)
+
+-- the window where it lies inside, else nothing
+unfoldable pub partOf : List ℕ → ℕ → ℕ → List ℕ
+partOf s at n = cond (hasWindow s at n) (window s at n) []
