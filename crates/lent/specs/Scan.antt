@@ -18,3 +18,7 @@ module _ {A : Type 0} where
   unfoldable pub tally : (A → Bool) → List A → ℕ
   tally test [] = 0
   tally test (x ∷ xs) = cond (test x) 1 0 + tally test xs
+
+-- the places themselves
+abbrev pub places : ℕ → ℕ → ℕ → List ℕ
+places step at n = gather (λ place. place) step at n

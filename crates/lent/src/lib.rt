@@ -1,7 +1,7 @@
 // Reads of lent bytes that need no promise of the caller: past the end there is a zero, and a part that does not lie
 // inside is empty.
 ghost use mathlib.Core.Path.{_≡_};
-ghost use Prim.Native.Nat.{_+_, _*_, _<_, _≤_};
+ghost use Prim.Native.Nat.{_+_, _*_, _<_, _≤_, min, max};
 ghost use lib.ListN.{length};
 ghost use mathlib.Core.Bool.{cond};
 ghost use Rattle.lent.specs.Bytes.{byteAt, numberAt, hasWindow, partOf};
@@ -74,6 +74,18 @@ pub fn part(s: &[u8], at: usize, n: usize) -> &[u8]
         return &s[at..end];
     }
     &s[0..0]
+}
+
+pub fn greater(a: usize, b: usize) -> usize
+    ensures { λ r. ⌜ r ≡ max a b ⌝ }
+{
+    if a < b { b } else { a }
+}
+
+pub fn lesser(a: usize, b: usize) -> usize
+    ensures { λ r. ⌜ r ≡ min a b ⌝ }
+{
+    if a < b { a } else { b }
 }
 
 pub fn one(b: bool) -> u8

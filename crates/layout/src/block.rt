@@ -1,0 +1,100 @@
+// Where things stand in a block, of any bytes.
+ghost use mathlib.Core.Path.{_≡_};
+ghost use Prim.Native.Nat.{_+_, _*_, _<_, _≤_};
+ghost use Rattle.layout.specs.Layout.{partAt, recordAt, structAt, headSize, countOf, headsFrom, tableAt, limitAt};
+
+// What has a head, and a table of fields.
+pub enum Holder {
+    Record,
+    Struct,
+}
+
+// Bytes of the block's head, of a record's and of a struct's, and of a field name.
+const HEAD: usize = 8;
+
+const RECORD_HEAD: usize = 72;
+
+pub const STRUCT_HEAD: usize = 48;
+
+pub const NAME: usize = 33;
+
+// The bytes whose start and length stand at a place.
+fn part_at(l: &[u8], at: usize) -> &[u8]
+    requires { ⌜ at < 4294967296 ⌝ }
+    ensures { λ r. ⌜ now r ≡ partAt (now (l .entry)) at ⌝ }
+{
+    lent::part(l, lent::u32_at(l, at), lent::u32_at(l, at + 4))
+}
+
+// ---- the heads
+
+pub fn head_size(holder: Holder) -> usize
+    ensures { λ r. ⌜ (r ≡ headSize holder) × (r ≤ 72) ⌝ }
+{
+    match holder {
+        Holder::Record => RECORD_HEAD,
+        Holder::Struct => STRUCT_HEAD,
+    }
+}
+
+pub fn count_of(holder: Holder, l: &[u8]) -> usize
+    ensures { λ r. ⌜ (r ≡ countOf holder (now (l .entry))) × (r < 65536) ⌝ }
+{
+    match holder {
+        Holder::Record => lent::wide16(lent::u16_at(l, 0)),
+        Holder::Struct => lent::wide16(lent::u16_at(l, 2)),
+    }
+}
+
+pub fn heads_from(holder: Holder, l: &[u8]) -> usize
+    ensures { λ r. ⌜ (r ≡ headsFrom holder (now (l .entry))) × (r < 4718600) ⌝ }
+{
+    match holder {
+        Holder::Record => HEAD,
+        Holder::Struct => HEAD + RECORD_HEAD * count_of(Holder::Record, l),
+    }
+}
+
+// The head of record k.
+pub fn record_head(k: usize) -> usize
+    requires { ⌜ k < 65536 ⌝ }
+    ensures { λ r. ⌜ (r ≡ 8 + 72 * k) × (r < 4718600) ⌝ }
+{
+    HEAD + RECORD_HEAD * k
+}
+
+// ---- what a head at h says
+
+pub fn record_base(l: &[u8], h: usize) -> usize
+    requires { ⌜ h < 4000000000 ⌝ }
+    ensures { λ r. ⌜ r ≡ recordAt (now (l .entry)) h .base ⌝ }
+{
+    lent::u32_at(l, h + 4)
+}
+
+pub fn struct_size(l: &[u8], h: usize) -> usize
+    requires { ⌜ h < 4000000000 ⌝ }
+    ensures { λ r. ⌜ r ≡ structAt (now (l .entry)) h .size ⌝ }
+{
+    lent::u32_at(l, h)
+}
+
+pub fn table_at(holder: Holder, l: &[u8], h: usize) -> &[u8]
+    requires { ⌜ h < 4000000000 ⌝ }
+    ensures { λ r. ⌜ now r ≡ tableAt holder (now (l .entry)) h ⌝ }
+{
+    match holder {
+        Holder::Record => part_at(l, h + 16),
+        Holder::Struct => part_at(l, h + 4),
+    }
+}
+
+pub fn limit_at(holder: Holder, l: &[u8], h: usize) -> usize
+    requires { ⌜ h < 4000000000 ⌝ }
+    ensures { λ r. ⌜ r ≡ limitAt holder (now (l .entry)) h ⌝ }
+{
+    match holder {
+        Holder::Record => limits::MAX_BYTES,
+        Holder::Struct => struct_size(l, h),
+    }
+}

@@ -1,0 +1,4 @@
+// A layout in one block of lent bytes (docs/FORMATS.md).
+pub mod block;
+pub mod shape;
+pub mod size;

@@ -1,0 +1,117 @@
+-- Fields that follow each other lie apart, and the order that they stand in does not matter to that. Assumes nothing.
+use mathlib.Core.Path.{_≡_, refl, sym, ap, _∙_}
+use mathlib.Core.Bool.{Bool, true, false, cond, not, _&&_, false≢true}
+use mathlib.Core.List.{List, [], _∷_, map}
+use Prim.Native.Nat.{ℕ, zero, suc, _+_, _-_, _≤_, _<_, min, max}
+use native.Mathlib.Numerals.{add-one}
+use native.Mathlib.Omega.{arith}
+use borrow.Author.Tests.{leb-true, le-leb, lt-leb, le-ltb}
+use lib.Dec.{leb, ltb}
+use lib.ListN.{length, getD, take, drop, drop-of-length-le, length-take}
+use lib.Seq.{drop-cons, getD-take, length-take-le}
+use Rattle.lent.specs.Scan.{every}
+use Rattle.field.specs.Field.{endOf}
+use Rattle.field.specs.declared.FieldDef.{FieldDef}
+use Rattle.order.specs.Order.{insert, byOffset}
+use Rattle.table.specs.Table.{shareByte, clearOf, apart}
+use Rattle.table.specs.Parts.{chain}
+
+both : (a b : Bool) → (a && b) ≡ true → (a ≡ true) × (b ≡ true)
+both true b e = (refl, e)
+both false b e = absurd (false≢true e)
+
+-- ---- fields that follow each other lie apart
+
+clear-after : (f g : FieldDef) → endOf f ≤ g .offset → clearOf f g ≡ true
+clear-after f g h = ap not (le-ltb (max (f .offset) (g .offset)) (min (endOf f) (endOf g)) (omega arith))
+
+clear-of-rest : (f : FieldDef) (low : ℕ) (gs : List FieldDef) → endOf f ≤ low → chain low gs ≡ true → every (clearOf f) gs ≡ true
+unfolding chain every
+clear-of-rest f low [] h e = refl
+clear-of-rest f low (g ∷ gs) h e =
+    let z = both (leb low (g .offset)) (chain (endOf g) gs) e in
+    let k : low ≤ g .offset = leb-true low (g .offset) (z .0) in
+    rw (clear-after f g (omega arith)) (clear-of-rest f (endOf g) gs (omega arith) (z .1))
+
+chain-apart : (low : ℕ) (gs : List FieldDef) → chain low gs ≡ true → apart gs ≡ true
+unfolding chain apart
+chain-apart low [] e = refl
+chain-apart low (g ∷ gs) e =
+    let z = both (leb low (g .offset)) (chain (endOf g) gs) e in
+    rw (clear-of-rest g (endOf g) gs (omega arith) (z .1)) (chain-apart (endOf g) gs (z .1))
+
+-- ---- the order does not matter
+
+swap : (a b c d : Bool) → ((a && b) && (c && d)) ≡ ((a && c) && (b && d))
+swap true true c d = refl
+swap true false true d = refl
+swap true false false d = refl
+swap false b c d = refl
+
+shift : (a b c : Bool) → (a && (b && c)) ≡ (b && (a && c))
+shift true b c = refl
+shift false true c = refl
+shift false false c = refl
+
+every-insert : (p : FieldDef → Bool) (f : FieldDef) (gs : List FieldDef) → every p (insert f gs) ≡ (p f && every p gs)
+unfolding every insert
+every-insert p f [] = refl
+every-insert p f (g ∷ gs) = go (every-insert p f gs) (leb (f .offset) (g .offset)) where
+  go : every p (insert f gs) ≡ (p f && every p gs) → (t : Bool) → every p (cond t (f ∷ g ∷ gs) (g ∷ insert f gs)) ≡ (p f && (p g && every p gs))
+  go ih true = refl
+  go ih false = rw ih (shift (p g) (p f) (every p gs))
+
+every-sorted : (p : FieldDef → Bool) (fs : List FieldDef) → every p (byOffset fs) ≡ every p fs
+unfolding every byOffset
+every-sorted p [] = refl
+every-sorted p (f ∷ fs) = every-insert p f (byOffset fs) ∙ ap (λ (b : Bool). p f && b) (every-sorted p fs)
+
+clear-sym : (f g : FieldDef) → clearOf f g ≡ clearOf g f
+clear-sym f g =
+    let e : max (f .offset) (g .offset) ≡ max (g .offset) (f .offset) = omega arith in
+    let d : min (endOf f) (endOf g) ≡ min (endOf g) (endOf f) = omega arith in
+    rw (e, d)
+
+apart-insert : (f : FieldDef) (gs : List FieldDef) → apart (insert f gs) ≡ (every (clearOf f) gs && apart gs)
+unfolding every insert apart
+apart-insert f [] = refl
+apart-insert f (g ∷ gs) = go (apart-insert f gs) (leb (f .offset) (g .offset)) where
+  go : apart (insert f gs) ≡ (every (clearOf f) gs && apart gs)
+      → (t : Bool) → apart (cond t (f ∷ g ∷ gs) (g ∷ insert f gs)) ≡ ((clearOf f g && every (clearOf f) gs) && (every (clearOf g) gs && apart gs))
+  go ih true = refl
+  go ih false =
+      rw (every-insert (clearOf g) f gs, ih, clear-sym g f)
+      (swap (clearOf f g) (every (clearOf g) gs) (every (clearOf f) gs) (apart gs))
+
+apart-sorted : (fs : List FieldDef) → apart (byOffset fs) ≡ apart fs
+unfolding byOffset apart
+apart-sorted [] = refl
+apart-sorted (f ∷ fs) = apart-insert f (byOffset fs) ∙ rw (every-sorted (clearOf f) fs, apart-sorted fs)
+
+-- fields that follow each other in offset order lie apart
+pub chained : (fs : List FieldDef) → chain 0 (byOffset fs) ≡ true → true ≡ apart fs
+chained fs e = sym (chain-apart 0 (byOffset fs) e) ∙ apart-sorted fs
+
+-- ---- a turn of the loop over an order
+
+module _ (F : ℕ → FieldDef) (low k n : ℕ) (o : List ℕ) (all : Bool) (so : chain low (map F (drop k (take n o))) ≡ all) where
+  module _ (fits : n ≤ length o) (h : k < n) where
+    turn : (leb low (F (getD o k 0) .offset) && chain (endOf (F (getD o k 0))) (map F (drop (k + 1) (take n o)))) ≡ all
+    unfolding chain
+    turn =
+        let l : k < length (take n o) = omega (arith, length-take-le n o fits) in
+        let e : drop k (take n o) ≡ getD o k 0 ∷ drop (k + 1) (take n o) =
+        rw (add-one k, ← getD-take n o k 0 h) (drop-cons (take n o) k 0 l) in
+        rw e at so
+
+    pub chain-stops : F (getD o k 0) .offset < low → false ≡ all
+    chain-stops g = rw (lt-leb _ _ g) at turn
+
+    pub chain-goes : low ≤ F (getD o k 0) .offset → chain (endOf (F (getD o k 0))) (map F (drop (k + 1) (take n o))) ≡ all
+    chain-goes g = rw (le-leb _ _ g) at turn
+
+  pub chain-ends : n ≤ k → true ≡ all
+  unfolding chain
+  chain-ends h =
+      let l : length (take n o) ≤ k = simp length-take (omega arith) in
+      rw (drop-of-length-le (take n o) l) at so

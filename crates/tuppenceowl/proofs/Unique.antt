@@ -1,0 +1,34 @@
+-- Two answers that meet a public call's promise are equal: a promise leaves nothing open. Assumes nothing.
+use mathlib.Core.Path.{_≡_, sym, _∙_}
+use mathlib.Core.List.{List}
+use Prim.Native.Nat.{ℕ}
+use Rattle.admission.specs.Admission.{admitCatalogue, admitOf, statusOf}
+use Rattle.admission.specs.declared.Admitted.{Admitted}
+use Rattle.tuppenceowl.specs.Answers.{sizedOf, windowedOf, foundOf}
+use Rattle.tuppenceowl.specs.declared.Sized.{Sized}
+use Rattle.tuppenceowl.specs.declared.Windowed.{Windowed}
+use Rattle.tuppenceowl.specs.declared.Found.{Found}
+
+equal : {A : Type 0} {x r s : A} → r ≡ x → s ≡ x → r ≡ s
+equal p q = p ∙ sym q
+
+pub check-catalogue-unique : (cat : List ℕ) (r s : Admitted) → r ≡ admitCatalogue cat → s ≡ admitCatalogue cat → r ≡ s
+check-catalogue-unique cat r s = equal
+
+pub admit-unique : (cat layout : List ℕ) (r s : Admitted) → r ≡ admitOf cat layout → s ≡ admitOf cat layout → r ≡ s
+admit-unique cat layout r s = equal
+
+pub record-size-unique : (cat layout : List ℕ) (k : ℕ) (r s : Sized) → r ≡ sizedOf cat layout k → s ≡ sizedOf cat layout k → r ≡ s
+record-size-unique cat layout k r s = equal
+
+pub window-unique : (bytes : List ℕ) (offset size : ℕ) (r s : Windowed) → r ≡ windowedOf bytes offset size → s ≡ windowedOf bytes offset size → r ≡ s
+window-unique bytes offset size r s = equal
+
+pub field-of-unique : (table : List ℕ) (k : ℕ) (r s : Found) → r ≡ foundOf table k → s ≡ foundOf table k → r ≡ s
+field-of-unique table k r s = equal
+
+pub owl-check-catalogue-unique : (cat : List ℕ) (r s : ℕ) → r ≡ statusOf (admitCatalogue cat) → s ≡ statusOf (admitCatalogue cat) → r ≡ s
+owl-check-catalogue-unique cat r s = equal
+
+pub owl-admit-unique : (cat layout : List ℕ) (r s : ℕ) → r ≡ statusOf (admitOf cat layout) → s ≡ statusOf (admitOf cat layout) → r ≡ s
+owl-admit-unique cat layout r s = equal

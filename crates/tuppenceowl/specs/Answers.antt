@@ -1,0 +1,50 @@
+-- What each public call answers, of any bytes and numbers.
+use Prim.Native.Nat.{ℕ, _+_, _*_, _/_, _%_}
+use mathlib.Core.Bool.{Bool, true, false, cond, _&&_}
+use mathlib.Core.List.{List}
+use lib.Dec.{leb, ltb, eqb}
+use lib.ListN.{length}
+use Rattle.limits.specs.Limits.{maxFields}
+use Rattle.limits.specs.declared.refusal.Refusal.{Refusal}
+use Rattle.limits.specs.declared.refusal.Refusal.the-variants.{BadShape, ReservedByte}
+use Rattle.lent.specs.Bytes.{hasWindow}
+use Rattle.lent.specs.Scan.{every}
+use Rattle.field.specs.Field.{fieldAt, fieldsOf}
+use Rattle.table.specs.Table.{reservedZero}
+use Rattle.layout.specs.Layout.{countOf, recordAt}
+use Rattle.layout.specs.Size.{recordSize}
+use Rattle.layout.specs.declared.block.Holder.the-variants.{Record}
+use Rattle.admission.specs.Admission.{admitOf}
+use Rattle.admission.specs.declared.Admitted.{Admitted}
+use Rattle.admission.specs.declared.Admitted.the-variants.{Fine, Refused}
+use Rattle.tuppenceowl.specs.declared.Sized.{Sized}
+use Rattle.tuppenceowl.specs.declared.Sized.the-variants.{Bytes, NoRecord, Refused as Unsized}
+use Rattle.tuppenceowl.specs.declared.Windowed.{Windowed}
+use Rattle.tuppenceowl.specs.declared.Windowed.the-variants.{Within, Past}
+use Rattle.tuppenceowl.specs.declared.Found.{Found}
+use Rattle.tuppenceowl.specs.declared.Found.the-variants.{Field, NoField, Refused as Unfound}
+
+-- the refusal of admission, else what follows
+abbrev pub orSized : Admitted → Sized → Sized
+orSized Fine rest = rest
+orSized (Refused refusal) rest = Unsized refusal
+
+-- the size of record k of a layout, counted from 0
+unfoldable pub sizedOf : List ℕ → List ℕ → ℕ → Sized
+sizedOf cat l k =
+    orSized (admitOf cat l) (cond (ltb k (countOf Record l)) (Bytes (recordSize (recordAt l (8 + 72 * k)))) NoRecord)
+
+-- where a window starts and ends, if it lies inside
+abbrev pub windowedOf : List ℕ → ℕ → ℕ → Windowed
+windowedOf s offset size = cond (hasWindow s offset size) (Within offset (offset + size)) Past
+
+-- refusal 2 of a table that is lent alone: whole fields, and not too many
+abbrev pub aloneOk : List ℕ → Bool
+aloneOk t = eqb (length t % 16) 0 && leb (length t) (16 * maxFields)
+
+-- field k of such a table, counted from 0: refusals 2 and 3 are tested
+unfoldable pub foundOf : List ℕ → ℕ → Found
+foundOf t k =
+    cond (aloneOk t)
+    (cond (every reservedZero (fieldsOf t)) (cond (ltb k (length t / 16)) (Field (fieldAt t (16 * k))) NoField) (Unfound ReservedByte))
+    (Unfound BadShape)
