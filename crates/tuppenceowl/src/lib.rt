@@ -2,7 +2,7 @@
 ghost use mathlib.Core.Path.{_≡_};
 ghost use Rattle.admission.specs.Admission.{admitCatalogue, admitOf, statusOf};
 ghost use Rattle.tuppenceowl.specs.Answers.{aloneOk, sizedOf, windowedOf, foundOf};
-use admission::Admitted;
+pub use admission::Admitted;
 use field::FieldDef;
 use layout::block;
 use layout::block::Holder;

@@ -1,0 +1,528 @@
+#!/usr/bin/env python3
+"""The ground's cases: catalogues and layouts with each refusal alone, in pairs and at the limits.
+
+  tests/ground.py            writes crates/cases/stdin and crates/cases/stdout
+  tests/ground.py --check    says whether the two files are what it would write
+  tests/ground.py --random N [SEED]
+                             runs the built program on N damaged layouts and compares it with the model below
+
+Each case states its answer; the model, written from the rules and not from the code, must give the same.
+"""
+import copy, os, random, struct, subprocess, sys
+
+ROOT = os.path.join(os.path.dirname(os.path.abspath(__file__)), "..")
+OTHER, UNSIGNED, SIGNED, DECIMAL, STRING, STRUCT, PADDING = range(7)
+ARRAY, EXTENSION = 128, 64
+
+# ---- bytes of a catalogue and of a layout (docs/FORMATS.md)
+
+U8, U16, U32, U64, I8, I16, I32, I64, PRICE, CSTR, SYMBOL, NESTED, PAD, CHAR, ENUM = 1, 2, 3, 4, 17, 18, 19, 20, 33, 49, 50, 65, 80, 96, 97
+GOOD_KINDS = {
+    U8: (UNSIGNED, 1), U16: (UNSIGNED, 2), U32: (UNSIGNED, 4), U64: (UNSIGNED, 8),
+    I8: (SIGNED, 1), I16: (SIGNED, 2), I32: (SIGNED, 4), I64: (SIGNED, 8),
+    PRICE: (DECIMAL, 8), CSTR: (STRING, 0), SYMBOL: (STRING, 0), NESTED: (STRUCT, 0), PAD: (PADDING, 0),
+    CHAR: (OTHER, 1), ENUM: (OTHER, 2),
+}
+
+
+def catalogue(kinds=GOOD_KINDS, array=ARRAY, extension=EXTENSION, header=1, padding=0, cut=None, more=b""):
+    table = bytearray(256)
+    for type_id, (kind, width) in kinds.items():
+        table[type_id] = 16 * kind + width
+    whole = bytes(table) + struct.pack("<BBHH", array, extension, header, padding) + more
+    return whole[:cut]
+
+
+def field(field_id, offset, size, type_id, flags=0, def_index=0, scale=0, reserved=bytes(5)):
+    return struct.pack("<HHHBBHb", field_id, offset, size, type_id, flags, def_index, scale) + reserved
+
+
+def name(text):
+    text = text if isinstance(text, bytes) else text.encode()
+    return bytes([min(len(text), 255)]) + text[:32].ljust(32, b"\0")
+
+
+def record(fields, base=64, title="r", rtype=1, schema=1, stored=0, names=None):
+    fields = list(fields)
+    names = [b"f"] * len(fields) if names is None else names
+    return dict(fields=fields, base=base, name=title, rtype=rtype, schema=schema, hash=stored, names=names)
+
+
+def nested(fields, size=16, title="s"):
+    return dict(fields=list(fields), size=size, name=title)
+
+
+def layout(records, structs=(), counts=None, head=b"\0\0\0\0", patch=()):
+    """patch: (place, bytes) laid over the block, a place below 0 counted from its end"""
+    at = 8 + 72 * len(records) + 48 * len(structs)
+    heads, parts = b"", b""
+
+    def part(content):
+        nonlocal parts
+        start = at + len(parts)
+        parts += content
+        return struct.pack("<II", start, len(content))
+
+    for r in records:
+        table, names = part(b"".join(r["fields"])), part(b"".join(name(n) for n in r["names"]))
+        heads += struct.pack("<HHIQ", r["rtype"], r["schema"], r["base"], r["hash"]) + table + names + name(r["name"]) + bytes(7)
+    for s in structs:
+        heads += struct.pack("<I", s["size"]) + part(b"".join(s["fields"])) + name(s["name"]) + bytes(3)
+    counts = counts or (len(records), len(structs))
+    block = bytearray(struct.pack("<HH", *counts) + head + heads + parts)
+    for place, content in patch:
+        place = place if place >= 0 else len(block) + place
+        block[place : place + len(content)] = content
+    return bytes(block)
+
+
+# ---- the model: the rules, read afresh
+
+def number(b, at, n):
+    return sum((b[at + i] if at + i < len(b) else 0) << 8 * i for i in range(n))
+
+
+def valid(cat):
+    if len(cat) != 262:
+        return False
+    kinds = [divmod(k, 16) for k in cat[:256]]
+    if any(k > PADDING or w not in (0, 1, 2, 4, 8) for k, w in kinds):
+        return False
+    for sign in (UNSIGNED, SIGNED):
+        if sorted(w for k, w in kinds if k == sign) != [1, 2, 4, 8]:
+            return False
+    decimals = [w for k, w in kinds if k == DECIMAL]
+    if len(decimals) != 1 or decimals[0] == 0:
+        return False
+    for kind, many in ((STRING, 2), (STRUCT, 1), (PADDING, 1)):
+        if [w for k, w in kinds if k == kind] != [0] * many:
+            return False
+    bits = [1 << i for i in range(8)]
+    return cat[256] in bits and cat[257] in bits and cat[256] != cat[257]
+
+
+def part(l, at):
+    start, size = number(l, at, 4), number(l, at + 4, 4)
+    return l[start : start + size] if start + size <= len(l) else None
+
+
+def table_shape(l, at, most):
+    table = part(l, at)
+    return table is not None and len(table) % 16 == 0 and len(table) // 16 <= most
+
+
+def byte(l, at):
+    return number(l, at, 1)
+
+
+def shape(l):
+    records, structs = number(l, 0, 2), number(l, 2, 2)
+    if records > 16 or structs > 16 or 8 + 72 * records + 48 * structs > len(l):
+        return None
+    tables = []
+    for k in range(records):
+        h = 8 + 72 * k
+        if number(l, h + 4, 4) > 4096 or byte(l, h + 32) > 32 or not table_shape(l, h + 16, 128):
+            return None
+        fields, names = len(part(l, h + 16)) // 16, part(l, h + 24)
+        if names is None or len(names) != 33 * fields or any(names[33 * i] > 32 for i in range(fields)):
+            return None
+        tables.append((part(l, h + 16), 4096))
+    for k in range(structs):
+        h = 8 + 72 * records + 48 * k
+        if number(l, h, 4) > 4096 or byte(l, h + 12) > 32 or not table_shape(l, h + 4, 32):
+            return None
+        tables.append((part(l, h + 4), number(l, h, 4)))
+    return tables
+
+
+def decode(row):
+    return struct.unpack("<HHHBBHb", row[:11])
+
+
+def rows(table):
+    return [table[i : i + 16] for i in range(0, len(table) - 15, 16)]
+
+
+def overlap(table):
+    seen = set()
+    for row in rows(table):
+        _, offset, size, *_ = decode(row)
+        for b in range(offset, offset + size):
+            if b in seen:
+                return True
+            seen.add(b)
+    return False
+
+
+def wrong_width(cat, row):
+    _, _, size, type_id, flags, _, _ = decode(row)
+    kind, width = divmod(cat[type_id], 16)
+    return kind in (UNSIGNED, SIGNED) and not flags & cat[256] and size != width
+
+
+def admit(cat, l):
+    if not valid(cat):
+        return 1
+    tables = shape(l)
+    if tables is None:
+        return 2
+    if any(any(row[11:]) for table, _ in tables for row in rows(table)):
+        return 3
+    for table, most in tables:
+        for row in rows(table):
+            _, offset, size, *_ = decode(row)
+            if size == 0 or offset + size > most:
+                return 4
+    if any(overlap(table) for table, _ in tables):
+        return 5
+    if any(wrong_width(cat, row) for table, _ in tables for row in rows(table)):
+        return 6
+    return 0
+
+
+def record_size(cat, l, k):
+    refusal = admit(cat, l)
+    if refusal:
+        return f"r{refusal}"
+    if k >= number(l, 0, 2):
+        return "none"
+    h = 8 + 72 * k
+    ends = [decode(row)[1] + decode(row)[2] for row in rows(part(l, h + 16))]
+    return f"={max([number(l, h + 4, 4)] + ends)}"
+
+
+def field_of(table, k):
+    if len(table) % 16 or len(table) > 16 * 128:
+        return "r2"
+    if any(any(row[11:]) for row in rows(table)):
+        return "r3"
+    if k >= len(table) // 16:
+        return "none"
+    return " ".join(map(str, decode(table[16 * k :]) + (0,)))
+
+
+# ---- the list
+
+class Cases:
+    def __init__(self):
+        self.lines, self.answers, self.cat, self.block = [], [], b"", b""
+
+    def put(self, line, answer):
+        self.lines.append(line)
+        self.answers.append(answer)
+
+    def title(self, text):
+        self.put("# " + text, "# " + text)
+
+    def said(self, refusal):
+        return f"r{refusal}" if refusal else "ok"
+
+    def catalogue(self, title, refusal, cat):
+        self.title(title)
+        assert refusal == (0 if valid(cat) else 1), title
+        self.cat = cat
+        self.put("catalogue\t" + cat.hex(), self.said(refusal))
+
+    def layout(self, title, refusal, block):
+        self.title(title)
+        assert refusal == admit(self.cat, block), (title, admit(self.cat, block))
+        self.block = block
+        self.put("layout\t" + block.hex(), self.said(refusal))
+
+    def size(self, k, answer):
+        assert answer == record_size(self.cat, self.block, k), (k, record_size(self.cat, self.block, k))
+        self.put(f"size\t{k}", answer)
+
+    def window(self, content, offset, size, answer):
+        self.put(f"window\t{content.hex()}\t{offset}\t{size}", answer)
+
+    def field(self, table, k, answer):
+        assert answer == field_of(table, k), field_of(table, k)
+        self.put(f"field\t{table.hex()}\t{k}", answer)
+
+
+def with_kind(type_id, kind, width):
+    return catalogue({**GOOD_KINDS, type_id: (kind, width)})
+
+
+def without(type_id):
+    return catalogue({k: v for k, v in GOOD_KINDS.items() if k != type_id})
+
+
+def catalogues(c):
+    c.catalogue("a valid catalogue", 0, catalogue())
+    c.catalogue("flags at other bits", 0, catalogue(array=1, extension=2))
+    c.catalogue("one byte short", 1, catalogue(cut=261))
+    c.catalogue("one byte too many", 1, catalogue(more=b"\0"))
+    c.catalogue("no bytes", 1, b"")
+    c.catalogue("class 7", 1, with_kind(200, 7, 0))
+    c.catalogue("class 15", 1, with_kind(200, 15, 8))
+    for width in (3, 5, 6, 7, 9, 15):
+        c.catalogue(f"an other of width {width}", 1, with_kind(200, OTHER, width))
+    c.catalogue("an other of width 4", 0, with_kind(200, OTHER, 4))
+    for word, ids, kind in (("unsigned", (U8, U16, U32, U64), UNSIGNED), ("signed", (I8, I16, I32, I64), SIGNED)):
+        for type_id, width in zip(ids, (1, 2, 4, 8)):
+            c.catalogue(f"no {word} id of width {width}", 1, without(type_id))
+            c.catalogue(f"two {word} ids of width {width}", 1, with_kind(255, kind, width))
+        c.catalogue(f"a {word} id of width 0", 1, with_kind(200, kind, 0))
+    c.catalogue("no decimal id", 1, without(PRICE))
+    c.catalogue("two decimal ids", 1, with_kind(200, DECIMAL, 4))
+    c.catalogue("the decimal id of width 0", 1, with_kind(PRICE, DECIMAL, 0))
+    c.catalogue("the decimal id of width 2", 0, with_kind(PRICE, DECIMAL, 2))
+    c.catalogue("one string id", 1, without(CSTR))
+    c.catalogue("three string ids", 1, with_kind(200, STRING, 0))
+    c.catalogue("a string id of width 1", 1, with_kind(CSTR, STRING, 1))
+    for word, type_id, kind in (("struct", NESTED, STRUCT), ("padding", PAD, PADDING)):
+        c.catalogue(f"no {word} id", 1, without(type_id))
+        c.catalogue(f"two {word} ids", 1, with_kind(0, kind, 0))
+        c.catalogue(f"the {word} id of width 8", 1, with_kind(type_id, kind, 8))
+    c.catalogue("every id a padding id", 1, catalogue({i: (PADDING, 0) for i in range(256)}))
+    for array, extension in ((0, 64), (128, 0), (128, 128), (3, 64), (128, 96), (255, 64)):
+        c.catalogue(f"array flag {array}, extension flag {extension}", 1, catalogue(array=array, extension=extension))
+
+
+# a layout with two records and two structs, every table of more than one field
+HD = field(1, 0, 16, NESTED)
+SEQUENCE = field(2, 16, 8, U64)
+
+
+def sample():
+    return (
+        [
+            record([HD, SEQUENCE, field(3, 24, 8, PRICE, scale=-9), field(4, 32, 22, CSTR), field(0, 54, 2, PAD)], 56, "mbo"),
+            record([SEQUENCE, HD, field(5, 24, 8, U32, ARRAY)], 32, "trade", rtype=2, names=["sequence", "hd", "levels"]),
+        ],
+        [nested([field(6, 0, 1, U8), field(7, 8, 8, I64)], 16, "header"), nested([field(8, 0, 2, I16), field(9, 2, 2, ENUM)], 4)],
+    )
+
+
+# the earlier and the later refusals, each at a place in the first record and at one in the last struct
+BREAKS = {
+    2: (lambda r, s: r[0].update(base=4097), lambda r, s: s[1].update(size=5000)),
+    3: (lambda r, s: r[0]["fields"].__setitem__(0, HD[:11] + b"\0\0\x01\0\0"), lambda r, s: s[1]["fields"].__setitem__(1, field(9, 2, 2, ENUM, reserved=b"\0\0\0\0\x80"))),
+    4: (lambda r, s: r[0]["fields"].append(field(10, 4000, 97, CSTR)) or r[0]["names"].append("x"), lambda r, s: s[1]["fields"].append(field(10, 4, 1, U8))),
+    5: (lambda r, s: r[0]["fields"].append(field(0, 15, 1, PAD)) or r[0]["names"].append("x"), lambda r, s: s[1]["fields"].append(field(0, 3, 1, PAD))),
+    6: (lambda r, s: r[0]["fields"].append(field(10, 60, 4, U16)) or r[0]["names"].append("x"), lambda r, s: (s[1].update(size=8), s[1]["fields"].append(field(10, 4, 1, I32)))),
+}
+
+
+def broken(*which):
+    r, s = sample()
+    for refusal, place in which:
+        BREAKS[refusal][place](r, s)
+    return layout(r, s)
+
+
+def pairs(c):
+    for refusal in BREAKS:
+        c.layout(f"refusal {refusal} in the first record", refusal, broken((refusal, 0)))
+        c.layout(f"refusal {refusal} in the last struct", refusal, broken((refusal, 1)))
+    for first in BREAKS:
+        for later in BREAKS:
+            if first < later:
+                c.layout(f"{later} in the first record, {first} in the last struct", first, broken((later, 0), (first, 1)))
+                c.layout(f"{first} in the first record, {later} in the last struct", first, broken((first, 0), (later, 1)))
+    c.layout("all of them", 2, broken(*((refusal, refusal % 2) for refusal in BREAKS)))
+    c.catalogue("a catalogue that is not valid", 1, catalogue(array=0))
+    c.layout("a good layout under it", 1, layout(*sample()))
+    for refusal in BREAKS:
+        c.layout(f"refusal {refusal} under it", 1, broken((refusal, 0)))
+    c.layout("no layout under it", 1, b"")
+    c.catalogue("a valid catalogue", 0, catalogue())
+
+
+def shapes(c):
+    good = layout(*sample())
+    c.layout("the sample", 0, good)
+    c.layout("the same, bytes that nobody reads set", 0, layout(*sample(), head=b"\xff\xff\xff\xff", patch=[(8 + 65, b"\xff" * 7), (8 + 144 + 45, b"\xff" * 3)]))
+    c.layout("no bytes", 2, b"")
+    c.layout("seven zeros", 2, bytes(7))
+    c.layout("eight zeros: no records, no structs", 0, bytes(8))
+    c.layout("heads one byte short", 2, bytes([1]) + bytes(78))
+    c.layout("a head of zeros: no fields", 0, bytes([1]) + bytes(79))
+    c.layout("the last byte of the block is missing", 2, good[:-1])
+    c.layout("bytes after the last part", 0, good + b"\xff")
+    c.layout("counts of 65,535", 2, layout(*sample(), counts=(65535, 65535)))
+    c.layout("a table that starts far outside", 2, layout(*sample(), patch=[(8 + 16, b"\xff\xff\xff\xff")]))
+    c.layout("a table that ends far outside", 2, layout(*sample(), patch=[(8 + 20, b"\xf0\xff\xff\xff")]))
+    c.layout("names that start far outside", 2, layout(*sample(), patch=[(8 + 24, b"\xff\xff\xff\xff")]))
+    c.layout("a struct's table far outside", 2, layout(*sample(), patch=[(8 + 144 + 4, b"\xff\xff\xff\xff")]))
+    for cut in (1, 8, 15):
+        r, s = sample()
+        r[1]["fields"][-1] = r[1]["fields"][-1][:-cut]
+        c.layout(f"a record's table {cut} bytes short of whole fields", 2, layout(r, s))
+        r, s = sample()
+        s[1]["fields"][-1] = s[1]["fields"][-1][:-cut]
+        c.layout(f"a struct's table {cut} bytes short of whole fields", 2, layout(r, s))
+    for more in (-1, 1):
+        r, s = sample()
+        r[1]["names"] = ["n"] * (len(r[1]["fields"]) + more)
+        c.layout(f"{more} names more than fields", 2, layout(r, s))
+
+
+def limits(c):
+    tiny = lambda n: [field(i, i, 1, CHAR) for i in range(n)]
+    for n in (127, 128, 129):
+        c.layout(f"{n} fields in a record", 2 if n > 128 else 0, layout([record(tiny(n), 128)]))
+    c.layout("128 fields, from the last to the first", 0, layout([record(reversed(tiny(128)), 128)]))
+    c.layout("128 fields, the first two sharing a byte", 5, layout([record(tiny(127) + [field(200, 0, 1, PAD)], 128)]))
+    for n in (32, 33):
+        c.layout(f"{n} fields in a struct", 2 if n > 32 else 0, layout([], [nested(tiny(n), 40)]))
+    for n in (15, 16, 17):
+        c.layout(f"{n} records", 2 if n > 16 else 0, layout([record(tiny(1))] * n))
+        c.layout(f"{n} structs", 2 if n > 16 else 0, layout([], [nested(tiny(1))] * n))
+    for n in (32, 33, 255):
+        refusal = 2 if n > 32 else 0
+        c.layout(f"a record's name of {n} bytes", refusal, layout([record(tiny(2), title="n" * n)]))
+        c.layout(f"a field's name of {n} bytes", refusal, layout([record(tiny(2), names=["a", "n" * n])]))
+        c.layout(f"a struct's name of {n} bytes", refusal, layout([], [nested(tiny(1), title="n" * n)]))
+    for n in (4096, 4097, 70000):
+        c.layout(f"a base of {n}", 2 if n > 4096 else 0, layout([record(tiny(1), n)]))
+        c.layout(f"a struct of {n} bytes", 2 if n > 4096 else 0, layout([], [nested(tiny(1), n)]))
+    for offset, size, refusal in ((0, 4096, 0), (4095, 1, 0), (4095, 2, 4), (0, 4097, 4), (4096, 1, 4), (65535, 65535, 4), (0, 0, 4), (4096, 0, 4)):
+        c.layout(f"a record's field of {size} bytes at {offset}", refusal, layout([record([field(1, offset, size, CSTR)])]))
+    for offset, size, refusal in ((0, 16, 0), (15, 1, 0), (15, 2, 4), (16, 1, 4), (0, 17, 4), (3, 0, 4)):
+        c.layout(f"a field of {size} bytes at {offset} in a struct of 16", refusal, layout([], [nested([field(1, offset, size, CSTR)])]))
+    c.layout("a field in a struct of 0 bytes", 4, layout([], [nested(tiny(1), 0)]))
+    c.layout("a struct of 0 bytes with no fields", 0, layout([], [nested([], 0)]))
+
+
+def overlaps(c):
+    a = field(1, 8, 8, CSTR)
+    for offset, size, shared in ((0, 8, False), (16, 1, False), (0, 9, True), (15, 1, True), (10, 2, True), (0, 32, True), (8, 8, True)):
+        for type_id, word in ((CSTR, "a field"), (PAD, "padding")):
+            b = field(2, offset, size, type_id)
+            c.layout(f"bytes 8 to 15, and {word} of {size} at {offset}", 5 if shared else 0, layout([record([a, b])]))
+    c.layout("three fields, the first and the last sharing a byte", 5, layout([record([a, field(2, 0, 4, CSTR), field(3, 15, 4, CSTR)])]))
+    c.layout("two records may use the same bytes", 0, layout([record([a]), record([a])]))
+
+
+def widths(c):
+    ints = ((U8, 1), (U16, 2), (U32, 4), (U64, 8), (I8, 1), (I16, 2), (I32, 4), (I64, 8))
+    for type_id, width in ints:
+        c.layout(f"type {type_id}, {width} bytes", 0, layout([record([field(1, 0, width, type_id)])]))
+        for size in (width - 1, width + 1, 2 * width):
+            if size:
+                c.layout(f"type {type_id}, {size} bytes", 6, layout([record([field(1, 0, size, type_id)])]))
+        c.layout(f"an array of type {type_id}, 3 bytes", 0, layout([record([field(1, 0, 3, type_id, ARRAY)])]))
+        c.layout(f"type {type_id}, 3 bytes, every flag but the array's", 6, layout([record([field(1, 0, 3, type_id, 255 - ARRAY)])]))
+    for type_id in (PRICE, CSTR, NESTED, PAD, CHAR, 222):
+        c.layout(f"type {type_id} of any size", 0, layout([record([field(1, 0, 3, type_id)])]))
+
+
+def sizes(c):
+    c.title("record sizes")
+    c.layout("the sample", 0, layout(*sample()))
+    for k, answer in ((0, "=56"), (1, "=32"), (2, "none"), (65536, "none"), (999999999, "none")):
+        c.size(k, answer)
+    c.layout("a field past the base", 0, layout([record([HD, field(2, 16, 4, U32), field(3, 100, 9, CSTR)], 64)]))
+    c.size(0, "=109")
+    c.layout("padding past the base", 0, layout([record([field(0, 60, 8, PAD), HD], 64)]))
+    c.size(0, "=68")
+    c.layout("the header field past the base", 0, layout([record([field(1, 0, 80, NESTED)], 64)]))
+    c.size(0, "=80")
+    c.layout("no fields, base 0", 0, layout([record([], 0)]))
+    c.size(0, "=0")
+    c.layout("a field to the last byte", 0, layout([record([field(1, 4095, 1, CHAR)], 0)]))
+    c.size(0, "=4096")
+    c.layout("a layout that is not admitted", 4, layout([record([field(1, 4095, 2, CSTR)], 0)]))
+    c.size(0, "r4")
+    c.size(7, "r4")
+
+
+def windows(c):
+    c.title("windows")
+    for offset, size, answer in ((0, 4, "0 4"), (1, 3, "1 4"), (1, 4, "none"), (4, 0, "4 4"), (0, 0, "0 0"), (5, 0, "none"), (0, 5, "none"), (999999999, 0, "none"), (2, 999999999, "none")):
+        c.window(b"\1\2\3\4", offset, size, answer)
+    c.window(b"", 0, 0, "0 0")
+    c.window(b"", 0, 1, "none")
+
+
+def fields(c):
+    c.title("fields, decoded")
+    table = field(0x1234, 4095, 0xFEDC, 7, 0x81, 0xABCD, -9) + field(65535, 65535, 65535, 255, 255, 65535, -128) + field(0, 0, 0, 0, 0, 0, 127)
+    c.field(table, 0, "4660 4095 65244 7 129 43981 -9 0")
+    c.field(table, 1, "65535 65535 65535 255 255 65535 -128 0")
+    c.field(table, 2, "0 0 0 0 0 0 127 0")
+    c.field(table, 3, "none")
+    c.field(b"", 0, "none")
+    c.field(table[:-1], 0, "r2")
+    c.field(bytes(16 * 128), 127, "0 0 0 0 0 0 0 0")
+    c.field(bytes(16 * 129), 0, "r2")
+    for place in range(11, 16):
+        c.field(table[:32] + bytes(place) + b"\1" + bytes(15 - place), 0, "r3")
+
+
+def fixed():
+    c = Cases()
+    for part_of_list in (catalogues, pairs, shapes, limits, overlaps, widths, sizes, windows, fields):
+        if part_of_list is not catalogues and not valid(c.cat):
+            c.catalogue("a valid catalogue", 0, catalogue())
+        part_of_list(c)
+    return c
+
+
+# ---- damaged layouts, compared with the model
+
+def damaged(rng):
+    r, s = sample()
+    if rng.random() < 0.5:
+        r = [record([field(rng.randrange(5), rng.randrange(0, 64, 4), rng.choice((1, 2, 4, 8)), rng.choice(list(GOOD_KINDS))) for _ in range(rng.randrange(6))]) for _ in range(rng.randrange(4))]
+    for refusal in rng.sample(list(BREAKS), rng.randrange(3)):
+        if r and len(s) > 1 and r[0]["fields"]:
+            BREAKS[refusal][rng.randrange(2)](r, s)
+    block = bytearray(layout(r, s))
+    for _ in range(rng.choice((0, 0, 1, 1, 2, 5))):
+        block[rng.randrange(len(block))] = rng.choice((0, 1, 16, 33, 128, 255, rng.randrange(256)))
+    if rng.random() < 0.1:
+        del block[rng.randrange(len(block) + 1) :]
+    return bytes(block)
+
+
+def random_run(n, seed):
+    rng = random.Random(seed)
+    cat = catalogue()
+    lines, answers, told = ["catalogue\t" + cat.hex()], ["ok"], {}
+    for _ in range(n):
+        if rng.random() < 0.02:
+            raw = bytearray(catalogue())
+            raw[rng.randrange(262)] = rng.choice((0, 0x11, 0x28, 0x40, 0x60, rng.randrange(256)))
+            cat = bytes(raw)
+            lines.append("catalogue\t" + cat.hex())
+            answers.append("ok" if valid(cat) else "r1")
+            if not valid(cat) and rng.random() < 0.9:
+                cat = catalogue()
+                lines.append("catalogue\t" + cat.hex())
+                answers.append("ok")
+        block = damaged(rng)
+        refusal = admit(cat, block)
+        told[refusal] = told.get(refusal, 0) + 1
+        lines += ["layout\t" + block.hex(), "size\t0"]
+        answers += [f"r{refusal}" if refusal else "ok", record_size(cat, block, 0)]
+    program = os.path.join(ROOT, "target", "bin", "cases")
+    got = subprocess.run([program], input="\n".join(lines) + "\n", capture_output=True, text=True).stdout.split("\n")[:-1]
+    wrong = [i for i in range(len(lines)) if i >= len(got) or got[i] != answers[i]]
+    for i in wrong[:5]:
+        print(lines[i][:2000], "expected", answers[i], "got", got[i] if i < len(got) else "nothing")
+    print(f"{n} layouts, seed {seed}: {len(wrong)} differ; by answer:", dict(sorted(told.items())))
+    return 1 if wrong else 0
+
+
+def main():
+    if len(sys.argv) > 2 and sys.argv[1] == "--random":
+        sys.exit(random_run(int(sys.argv[2]), int(sys.argv[3]) if len(sys.argv) > 3 else 1))
+    c = fixed()
+    paths = [os.path.join(ROOT, "crates", "cases", which) for which in ("stdin", "stdout")]
+    texts = ["\n".join(lines) + "\n" for lines in (c.lines, c.answers)]
+    if sys.argv[1:] == ["--check"]:
+        same = all(os.path.exists(p) and open(p).read() == t for p, t in zip(paths, texts))
+        print("the files are", "as" if same else "NOT what", "this script writes them" if same else "it would write")
+        sys.exit(0 if same else 1)
+    for p, t in zip(paths, texts):
+        open(p, "w").write(t)
+    asked = sum(1 for line in c.lines if not line.startswith("#"))
+    print(f"{asked} cases, {sum(map(len, texts))} bytes")
+
+
+main()
