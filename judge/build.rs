@@ -2,7 +2,11 @@
 use std::{env, fs, io, path::Path, path::PathBuf};
 
 /// Taken as they stand.
-const PLAIN: [(&str, &str); 3] = [("layout.rs", "mod.rs"), ("layout/compare.rs", "compare.rs"), ("layout/index.rs", "index.rs")];
+const PLAIN: [(&str, &str); 3] = [
+    ("layout.rs", "mod.rs"),
+    ("layout/compare.rs", "compare.rs"),
+    ("layout/index.rs", "index.rs"),
+];
 
 /// Taken as they stand, with a child module of ours that sees their private items.
 const PROBED: [&str; 3] = ["builders", "hash", "upgrade"];
@@ -16,7 +20,9 @@ fn here() -> PathBuf {
 
 fn sources() -> PathBuf {
     let given = env::var_os("OWL_RUST_SRC").map(PathBuf::from);
-    given.unwrap_or_else(|| here().join("../../shared/docs/src")).join("src")
+    given
+        .unwrap_or_else(|| here().join("../../shared/docs/src"))
+        .join("src")
 }
 
 fn link(to: &Path, from: &Path) -> io::Result<()> {
@@ -36,7 +42,13 @@ fn lay_out(src: &Path, tree: &Path) -> io::Result<()> {
     }
     for name in PROBED {
         let file = format!("{name}.rs");
-        fs::write(tree.join(&file), probed(&src.join("layout").join(&file), &ours.join("probe").join(&file)))?;
+        fs::write(
+            tree.join(&file),
+            probed(
+                &src.join("layout").join(&file),
+                &ours.join("probe").join(&file),
+            ),
+        )?;
     }
     for name in OURS {
         let file = format!("{name}.rs");
@@ -57,5 +69,8 @@ fn main() -> io::Result<()> {
     let _ = fs::remove_dir_all(&tree);
     fs::create_dir_all(&tree)?;
     lay_out(&src, &tree)?;
-    fs::write(out.join("tree.rs"), format!("#[path = {:?}]\npub mod layout;\n", tree.join("mod.rs")))
+    fs::write(
+        out.join("tree.rs"),
+        format!("#[path = {:?}]\npub mod layout;\n", tree.join("mod.rs")),
+    )
 }

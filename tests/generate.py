@@ -79,9 +79,9 @@ def ordered(rng, fields):
 def any_fields(rng, count, end, structs, below, budget):
     """up to `count` fields that share no byte, none past `end`; their structs are lower than `below`, their visits within budget"""
     fields, at, style = [], rng.choice((0, 0, 0, rng.randrange(64))), rng.choice(("few", "wide", "plain"))
-    gaps, close = rng.random() < 0.5, rng.random() < 0.5
+    gap, close = rng.choice((0, 0, 1, 40, end // max(count, 1))), rng.random() < 0.5
     for _ in range(count):
-        at += rng.choice((0, 0, 1, 3, rng.randrange(40))) if gaps else 0
+        at += rng.choice((0, rng.randrange(gap + 1)))
         type_id, flags = any_type(rng, structs), any_flags(rng)
         room = min(end - at, (end // max(count, 1)) or 1) if close else end - at
         size = any_size(rng, type_id, flags, room) if room > 0 else 0

@@ -12,7 +12,9 @@ fn byte(b: &[u8], at: usize) -> u8 {
 }
 
 fn number(b: &[u8], at: usize, n: usize) -> u64 {
-    (0..n).rev().fold(0, |high, i| high << 8 | u64::from(byte(b, at + i)))
+    (0..n)
+        .rev()
+        .fold(0, |high, i| high << 8 | u64::from(byte(b, at + i)))
 }
 
 fn short(b: &[u8], at: usize) -> u16 {
@@ -82,8 +84,12 @@ pub fn layout(b: &[u8]) -> StreamLayout {
     let first_struct = HEAD + RECORD_HEAD * records;
     StreamLayout {
         stream_layout_version: 1,
-        record_layouts: (0..records).map(|k| record(b, HEAD + RECORD_HEAD * k)).collect(),
-        struct_layouts: (0..structs).map(|k| nested(b, first_struct + STRUCT_HEAD * k)).collect(),
+        record_layouts: (0..records)
+            .map(|k| record(b, HEAD + RECORD_HEAD * k))
+            .collect(),
+        struct_layouts: (0..structs)
+            .map(|k| nested(b, first_struct + STRUCT_HEAD * k))
+            .collect(),
         label_defs: Vec::new(),
     }
 }

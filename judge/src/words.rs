@@ -8,7 +8,9 @@ pub struct Kept {
 
 impl Default for Kept {
     fn default() -> Self {
-        Self { layout: crate::block::layout(&[]) }
+        Self {
+            layout: crate::block::layout(&[]),
+        }
     }
 }
 
@@ -20,21 +22,23 @@ impl Kept {
 
 type Answer = Option<String>;
 
-struct Word {
-    name: &'static str,
-    /// how many words stand after it
-    takes: usize,
-    answer: fn(&mut Kept, &[&str]) -> Answer,
-}
+type Ask = fn(&mut Kept, &[&str]) -> Answer;
 
-const WORDS: &[Word] = &[
-    Word { name: "catalogue", takes: 1, answer: catalogue },
-    Word { name: "layout", takes: 1, answer: layout },
-    Word { name: "size", takes: 1, answer: size },
-    Word { name: "hash", takes: 1, answer: hash },
-    Word { name: "sum", takes: 1, answer: sum },
-    Word { name: "window", takes: 3, answer: window },
+/// A word, how many words stand after it, and who answers it.
+const WORDS: &[(&str, usize, Ask)] = &[
+    ("catalogue", 1, catalogue),
+    ("layout", 1, layout),
+    ("size", 1, size),
+    ("hash", 1, hash),
+    ("sum", 1, sum),
+    ("window", 3, window),
 ];
+
+fn asked(words: &[&str]) -> Option<Ask> {
+    let takes = words.len() - 1;
+    let found = WORDS.iter().find(|w| (w.0, w.1) == (words[0], takes));
+    found.map(|w| w.2)
+}
 
 /// The answer to a line: itself where it is empty or a title.
 pub fn answer(kept: &mut Kept, line: &str) -> String {
@@ -42,8 +46,8 @@ pub fn answer(kept: &mut Kept, line: &str) -> String {
         return line.to_owned();
     }
     let words: Vec<&str> = line.split('\t').collect();
-    let asked = WORDS.iter().find(|w| w.name == words[0] && w.takes == words.len() - 1);
-    asked.and_then(|w| (w.answer)(kept, &words[1..])).unwrap_or_else(|| "?".to_owned())
+    let answer = asked(&words).and_then(|ask| ask(kept, &words[1..]));
+    answer.unwrap_or_else(|| "?".to_owned())
 }
 
 // ---- parts of a line and of an answer
@@ -52,7 +56,10 @@ fn hex(word: &str) -> Option<Vec<u8>> {
     if !word.bytes().all(|c| c.is_ascii_hexdigit()) || word.len() % 2 != 0 {
         return None;
     }
-    (0..word.len()).step_by(2).map(|i| u8::from_str_radix(&word[i..i + 2], 16).ok()).collect()
+    (0..word.len())
+        .step_by(2)
+        .map(|i| u8::from_str_radix(&word[i..i + 2], 16).ok())
+        .collect()
 }
 
 fn number<T: std::str::FromStr>(word: &str) -> Option<T> {
@@ -88,7 +95,10 @@ fn size(kept: &mut Kept, words: &[&str]) -> Answer {
 
 fn hash(kept: &mut Kept, words: &[&str]) -> Answer {
     let k = number(words[0])?;
-    or_none(kept.record(k).map(|r| hash_text(r.layout_hash(&kept.layout.struct_layouts))))
+    or_none(
+        kept.record(k)
+            .map(|r| hash_text(r.layout_hash(&kept.layout.struct_layouts))),
+    )
 }
 
 fn sum(_kept: &mut Kept, words: &[&str]) -> Answer {

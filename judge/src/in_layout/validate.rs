@@ -5,6 +5,9 @@ pub(crate) fn validate(_layout: &StreamLayout, _symbol_cstr_len: u16) -> crate::
     Ok(())
 }
 
-pub(crate) fn validate_for_metadata(layout: &StreamLayout, symbol_cstr_len: u16) -> crate::Result<()> {
+pub(crate) fn validate_for_metadata(
+    layout: &StreamLayout,
+    symbol_cstr_len: u16,
+) -> crate::Result<()> {
     validate(layout, symbol_cstr_len)
 }

@@ -153,7 +153,10 @@ impl<T> Copy for Field<T> {}
 
 impl<T> Field<T> {
     pub const fn new(id: u16) -> Self {
-        Self { id, typed: PhantomData }
+        Self {
+            id,
+            typed: PhantomData,
+        }
     }
 
     pub const fn id(&self) -> u16 {
@@ -210,7 +213,10 @@ pub(crate) fn default_of(field_id: u16, type_id: u8) -> FieldDefault {
 }
 
 const fn is_signed(type_id: u8) -> bool {
-    matches!(type_id, i8::TYPE_ID | i16::TYPE_ID | i32::TYPE_ID | i64::TYPE_ID | Decimal::TYPE_ID)
+    matches!(
+        type_id,
+        i8::TYPE_ID | i16::TYPE_ID | i32::TYPE_ID | i64::TYPE_ID | Decimal::TYPE_ID
+    )
 }
 
 impl FieldDefault {

@@ -7,6 +7,8 @@ pub fn default_layout() -> &'static StreamLayout {
     &NONE
 }
 
-pub(crate) fn compiled_layout(_extend: impl FnMut(u16, &mut RecordLayoutBuilder<'_>)) -> StreamLayout {
+pub(crate) fn compiled_layout(
+    _extend: impl FnMut(u16, &mut RecordLayoutBuilder<'_>),
+) -> StreamLayout {
     StreamLayoutBuilder::new(1, 0).into_unvalidated()
 }

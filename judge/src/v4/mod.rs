@@ -24,8 +24,17 @@ impl RecordHeader {
         ts_event: u64,
         record_size: usize,
     ) -> crate::Result<Self> {
-        let after = record_size.checked_sub(size_of::<Self>()).and_then(|n| u16::try_from(n).ok());
+        let after = record_size
+            .checked_sub(size_of::<Self>())
+            .and_then(|n| u16::try_from(n).ok());
         let length = after.ok_or_else(|| crate::Error::encode("no such length"))?;
-        Ok(Self { length, rtype, publisher_id, zeros: [0; 2], instrument_id, ts_event })
+        Ok(Self {
+            length,
+            rtype,
+            publisher_id,
+            zeros: [0; 2],
+            instrument_id,
+            ts_event,
+        })
     }
 }
