@@ -1,0 +1,179 @@
+//! Prints what a call of the port takes beside one of the Rust. All rows of both tables are timed in one pass.
+mod inputs;
+mod measure;
+mod port;
+
+use judge::block;
+use judge::layout::{LayoutIndex, StreamLayout};
+use measure::Call;
+use std::hint::black_box;
+
+/// What the rows are timed on.
+struct Inputs {
+    catalogue: Vec<u8>,
+    ordered: Vec<u8>,
+    shuffled: Vec<u8>,
+    reversed: Vec<u8>,
+    thirty: StreamLayout,
+    scaling: Vec<(u16, Vec<u8>)>,
+}
+
+impl Inputs {
+    fn new() -> Self {
+        Self {
+            catalogue: inputs::catalogue(),
+            ordered: inputs::in_order(128),
+            shuffled: inputs::shuffled(128),
+            reversed: inputs::reversed(128),
+            thirty: block::layout(&inputs::in_order(30)),
+            scaling: [16, 32, 64, 128].map(|n| (n, inputs::in_order(n))).into(),
+        }
+    }
+}
+
+// ---- calls
+
+fn admit<'a>(catalogue: &'a [u8], layout: &'a [u8]) -> Call<'a> {
+    assert_eq!(
+        port::admit(catalogue, layout),
+        0,
+        "the port refuses the layout"
+    );
+    Box::new(move || {
+        black_box(port::admit(black_box(catalogue), black_box(layout)));
+    })
+}
+
+fn check_catalogue(catalogue: &[u8]) -> Call<'_> {
+    assert_eq!(
+        port::check_catalogue(catalogue),
+        0,
+        "the port refuses the catalogue"
+    );
+    Box::new(move || {
+        black_box(port::check_catalogue(black_box(catalogue)));
+    })
+}
+
+/// The layout compared with itself: its stored hashes are equal, so little but the index is built.
+fn index_new(layout: &[u8]) -> Call<'static> {
+    let layout = block::layout(layout);
+    Box::new(move || {
+        black_box(LayoutIndex::new(black_box(&layout), black_box(&layout)));
+    })
+}
+
+fn layout_hash(layout: &StreamLayout) -> Call<'_> {
+    Box::new(move || {
+        black_box(
+            black_box(&layout.record_layouts[0]).layout_hash(black_box(&layout.struct_layouts)),
+        );
+    })
+}
+
+// ---- rows: an entry for each
+
+/// How the row ends: nothing more, how much of the Rust's time the port may take, or how many fields share its time.
+enum Ends {
+    Plain,
+    Most(f64),
+    Fields(u16),
+}
+
+struct Row<'a> {
+    what: String,
+    ours: Call<'a>,
+    theirs: Call<'a>,
+    ends: Ends,
+}
+
+fn row<'a>(what: &str, ours: Call<'a>, theirs: Call<'a>, ends: Ends) -> Row<'a> {
+    Row {
+        what: what.to_owned(),
+        ours,
+        theirs,
+        ends,
+    }
+}
+
+fn rows(i: &Inputs) -> Vec<Row<'_>> {
+    let mut all = vec![
+        row(
+            "admission of one record of 128 fields in offset order, `LayoutIndex::new`",
+            admit(&i.catalogue, &i.ordered),
+            index_new(&i.ordered),
+            Ends::Plain,
+        ),
+        row(
+            "admission of one record of 128 fields shuffled, `LayoutIndex::new`",
+            admit(&i.catalogue, &i.shuffled),
+            index_new(&i.shuffled),
+            Ends::Plain,
+        ),
+        row(
+            "admission of one record of 128 fields from the last to the first, `LayoutIndex::new`",
+            admit(&i.catalogue, &i.reversed),
+            index_new(&i.reversed),
+            Ends::Plain,
+        ),
+        row(
+            "catalogue check, `layout_hash` of 30 fields",
+            check_catalogue(&i.catalogue),
+            layout_hash(&i.thirty),
+            Ends::Most(1.0 / 3.0),
+        ),
+    ];
+    for (n, layout) in &i.scaling {
+        let what = format!("admission of {n} fields in offset order, `LayoutIndex::new`");
+        all.push(row(
+            &what,
+            admit(&i.catalogue, layout),
+            index_new(layout),
+            Ends::Fields(*n),
+        ));
+    }
+    all
+}
+
+// ---- the table
+
+fn remark(ends: &Ends, ours: f64, theirs: f64) -> String {
+    match *ends {
+        Ends::Plain => String::new(),
+        Ends::Most(most) => format!(
+            "target {most:.2}: {}",
+            if ours <= most * theirs {
+                "met"
+            } else {
+                "missed"
+            }
+        ),
+        Ends::Fields(n) => format!(
+            "{:.1} and {:.1} ns a field",
+            ours / f64::from(n),
+            theirs / f64::from(n)
+        ),
+    }
+}
+
+fn print_row(what: &str, ends: &Ends, ours: f64, theirs: f64) {
+    println!(
+        "| {what} | {ours:.0} | {theirs:.0} | {:.2} | {} |",
+        ours / theirs,
+        remark(ends, ours, theirs)
+    );
+}
+
+fn main() {
+    let inputs = Inputs::new();
+    let (mut calls, mut heads) = (Vec::new(), Vec::new());
+    for row in rows(&inputs) {
+        calls.extend([row.ours, row.theirs]);
+        heads.push((row.what, row.ends));
+    }
+    let times = measure::all(&mut calls);
+    println!("| call of the port, of the Rust | port, ns | Rust, ns | ratio | |\n|---|---:|---:|---:|---|");
+    for ((what, ends), pair) in heads.iter().zip(times.chunks_exact(2)) {
+        print_row(what, ends, pair[0], pair[1]);
+    }
+}

@@ -1,0 +1,106 @@
+//! The checked cases of the rules that the Rust answers too, so that the stand-ins and the probes can be trusted.
+use judge::layout::wire::{hash, set_sources, upgrade};
+use judge::layout::{FieldDef, RecordLayout, StreamLayout};
+use judge::v3::{state, Stated};
+use judge::v4::fields::{set_default, FieldDefault};
+
+const U16: u8 = 2;
+const U32: u8 = 3;
+const CSTR: u8 = 49;
+
+fn field(field_id: u8, offset: u8, size: u8, type_id: u8) -> FieldDef {
+    let row = [
+        field_id, 0, offset, 0, size, 0, type_id, 0, 0, 0, 0, 0, 0, 0, 0, 0,
+    ];
+    judge::block::fields(&row)[0]
+}
+
+fn record(base: u16, fields: &[FieldDef]) -> RecordLayout {
+    RecordLayout {
+        rtype: 1,
+        schema: 1,
+        base_record_size: base,
+        layout_hash: 0,
+        name: "r".to_owned(),
+        field_defs: fields.to_vec(),
+        field_names: vec![String::new(); fields.len()],
+    }
+}
+
+/// The record of P6 with its rtype and its length of 24 in the header.
+fn source() -> (RecordLayout, [u8; 24]) {
+    let layout = record(24, &[field(5, 16, 6, CSTR), field(6, 22, 2, U16)]);
+    let mut bytes = [0; 24];
+    bytes[..2].copy_from_slice(&[6, 1]);
+    bytes[16..].copy_from_slice(&[1, 2, 3, 4, 5, 6, 7, 0]);
+    (layout, bytes)
+}
+
+fn target() -> RecordLayout {
+    for marked in [6, 7] {
+        set_default(marked, FieldDefault::Max);
+    }
+    let fields = [
+        field(5, 24, 6, CSTR),
+        field(6, 32, 4, U32),
+        field(7, 36, 2, U16),
+    ];
+    record(40, &fields)
+}
+
+fn stream(records: Vec<RecordLayout>) -> StreamLayout {
+    let mut layout = judge::block::layout(&[]);
+    layout.record_layouts = records;
+    layout
+}
+
+fn body_of_first(n: usize) -> [u8; 16] {
+    let (layout, bytes) = source();
+    let plan = upgrade::Plan::new(&layout, &target());
+    let mut out = [0xAA; 40];
+    plan.apply(&bytes[..n], &mut out);
+    out[24..].try_into().unwrap()
+}
+
+#[test]
+fn sums() {
+    assert_eq!(record(0, &[]).layout_hash(&[]), 0xC15D_213A_A4D7_A795);
+    assert_eq!(hash::sum(&[0x95]), 0x00C1_5D21_3AA4_D7A7);
+    assert_eq!(hash::sum(b"\"null\""), 0x63DD_24E7_CC25_8F8A);
+    assert_eq!(hash::sum(b"\"string\""), 0x8F01_4872_6345_03C7);
+}
+
+#[test]
+fn plans() {
+    let zero_to_ff = [
+        0, 0, 0, 0, 0, 0, 0, 0, 0xFF, 0xFF, 0xFF, 0xFF, 0xFF, 0xFF, 0, 0,
+    ];
+    assert_eq!(
+        body_of_first(24),
+        [1, 2, 3, 4, 5, 6, 0, 0, 7, 0, 0, 0, 0xFF, 0xFF, 0, 0]
+    );
+    assert_eq!(body_of_first(23)[8..], zero_to_ff[8..]);
+    assert_eq!(body_of_first(23)[..6], [1, 2, 3, 4, 5, 6]);
+    assert_eq!(body_of_first(21), zero_to_ff);
+}
+
+#[test]
+fn dispatch_by_the_header_and_by_what_is_stated() {
+    let (layout, bytes) = source();
+    set_sources(vec![layout]);
+    let dispatch = upgrade::Dispatch::new(&stream(vec![target()]), None);
+    let mut out = [0; 40];
+    assert_eq!(dispatch.upgrade(&bytes, &mut out).unwrap(), Some(40));
+    assert_eq!(out[24..30], bytes[16..22]);
+    // no plan and not listed: the bytes after the header are copied, as many as the stated length says
+    state(Stated {
+        rtype: Some(300),
+        length: Some(20),
+    });
+    assert_eq!(dispatch.upgrade(&bytes, &mut out).unwrap(), Some(28));
+    assert_eq!(out[24..28], bytes[16..20]);
+    // listed without a plan
+    let unplanned = upgrade::Dispatch::new(&stream(Vec::new()), None);
+    state(Stated::default());
+    assert!(unplanned.upgrade(&bytes, &mut out).is_err());
+}
