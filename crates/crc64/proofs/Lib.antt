@@ -1,0 +1,6 @@
+pub mod Xor
+pub mod Shifts
+pub mod Entries
+pub mod Agree
+pub mod Turns
+pub mod Vectors
