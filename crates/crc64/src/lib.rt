@@ -58,3 +58,16 @@ pub fn sum(bytes: &[u8]) -> u64
 {
     Crc64::new().with_bytes(bytes).finish()
 }
+
+// The same steps on a sum that is lent, which is changed in place.
+pub fn hash_u8(crc: &mut Crc64, b: u8)
+    ensures { λ _. ⌜ now (crc .exit) .fp ≡ byteStep (now (crc .entry) .fp) b ⌝ }
+{
+    *crc = crc.with_u8(b);
+}
+
+pub fn hash_u16(crc: &mut Crc64, v: u16)
+    ensures { λ _. ⌜ now (crc .exit) .fp ≡ u16Step (now (crc .entry) .fp) v ⌝ }
+{
+    *crc = crc.with_u16(v);
+}
