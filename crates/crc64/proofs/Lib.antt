@@ -4,3 +4,4 @@ pub mod Entries
 pub mod Agree
 pub mod Turns
 pub mod Vectors
+pub mod InPlace
