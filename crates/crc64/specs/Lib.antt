@@ -1,0 +1,2 @@
+pub mod Sum
+pub mod Avro
