@@ -33,7 +33,7 @@ byte-agrees fp b small =
     let i : ℕ = bitAnd (bitXor fp b) 255 in
     by-entry fp b _ small (entry (turns 8) 256 i (mask-lt (bitXor fp b) 8) ∙ turns-shifts 8 i)
 
-agree-from : (fp : ℕ) (bs : List ℕ) → ((i : ℕ) → getD bs i 0 < 256) → printFrom fp bs ≡ bytesStep fp bs
+pub agree-from : (fp : ℕ) (bs : List ℕ) → ((i : ℕ) → getD bs i 0 < 256) → printFrom fp bs ≡ bytesStep fp bs
 unfolding printFrom bytesStep
 agree-from fp [] small = refl
 agree-from fp (b ∷ bs) small =

@@ -7,7 +7,7 @@ use lib.Dec.{eqb}
 use lib.IntN.{ℤ}
 use lib.ListN.{length}
 use mir.Syntax.{w8}
-use mir.Val.{toZ}
+use mir.Val.{toZ, ofZ}
 use Rattle.lent.specs.Bytes.{byteAt, numberAt}
 use Rattle.lent.specs.Scan.{gather}
 use Rattle.catalogue.specs.Catalogue.{classOf, arrayFlag, unsigned, signed}
@@ -16,6 +16,10 @@ use Rattle.field.specs.declared.FieldDef.{FieldDef}
 -- the number that a byte holds in two's complement
 abbrev pub signedByte : ℕ → ℤ
 signedByte b = toZ w8 b
+
+-- the byte that such a number stands in
+abbrev pub byteOf : ℤ → ℕ
+byteOf z = ofZ w8 z
 
 -- the field whose bytes begin at `at`
 unfoldable pub fieldAt : List ℕ → ℕ → FieldDef

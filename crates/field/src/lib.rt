@@ -3,7 +3,7 @@ ghost use mathlib.Core.Path.{_≡_};
 ghost use Prim.Native.Nat.{_+_, _*_, _<_, _≤_};
 ghost use lib.ListN.{length};
 ghost use Rattle.lent.specs.Bytes.{numberAt};
-ghost use Rattle.field.specs.Field.{signedByte, fieldAt, endOf, isInteger, isArray, isPlainInteger};
+ghost use Rattle.field.specs.Field.{signedByte, byteOf, fieldAt, endOf, isInteger, isArray, isPlainInteger};
 
 // Bytes of a field in its table.
 pub const SIZE: usize = 16;
@@ -53,6 +53,44 @@ pub fn field_in(t: &[u8], at: usize) -> FieldDef
         scale: signed_byte(t[at + 10]),
         reserved: reserved_in(t, at + 11),
     }
+}
+
+fn reserved_at(t: &[u8], at: usize) -> usize
+    requires { ⌜ at < 8589934592 ⌝ }
+    ensures { λ r. ⌜ r ≡ numberAt (now (t .entry)) at 5 ⌝ }
+{
+    let last = at + 4;
+    lent::u32_at(t, at) + 4294967296 * lent::wide8(lent::byte_at(t, last))
+}
+
+// The field at a place that may lie outside, where the missing bytes are zero: for places that come out of an order.
+pub fn field_at(t: &[u8], at: usize) -> FieldDef
+    requires { ⌜ at < 65536 ⌝ }
+    ensures { λ r. ⌜ r ≡ fieldAt (now (t .entry)) at ⌝ }
+{
+    if at + SIZE <= t.len() {
+        return field_in(t, at);
+    }
+    FieldDef {
+        field_id: lent::u16_at(t, at),
+        offset: lent::u16_at(t, at + 2),
+        size: lent::u16_at(t, at + 4),
+        type_id: lent::byte_at(t, at + 6),
+        flags: lent::byte_at(t, at + 7),
+        def_index: lent::u16_at(t, at + 8),
+        scale: signed_byte(lent::byte_at(t, at + 10)),
+        reserved: reserved_at(t, at + 11),
+    }
+}
+
+// A scale's byte, in two's complement.
+pub fn scale_byte(scale: i8) -> u8
+    ensures { λ r. ⌜ r ≡ byteOf scale ⌝ }
+{
+    if scale < 0 {
+        return ((scale as i16) + 256) as u8;
+    }
+    scale as u8
 }
 
 pub fn end_of(f: FieldDef) -> usize

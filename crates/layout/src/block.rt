@@ -63,6 +63,13 @@ pub fn record_head(k: usize) -> usize
     HEAD + RECORD_HEAD * k
 }
 
+// The head of the struct of a number, whether the block has so many or not.
+pub fn struct_head(l: &[u8], k: u16) -> usize
+    ensures { λ r. ⌜ (r ≡ headsFrom Holder.Struct (now (l .entry)) + 48 * k) × (r < 7864320) ⌝ }
+{
+    heads_from(Holder::Struct, l) + STRUCT_HEAD * lent::wide16(k)
+}
+
 // ---- what a head at h says
 
 pub fn record_base(l: &[u8], h: usize) -> usize

@@ -1,14 +1,14 @@
 -- Laws of reads. Assumes nothing.
 use mathlib.Core.Path.{_≡_, refl, sym}
-use mathlib.Core.Bool.{Bool, true, false}
+use mathlib.Core.Bool.{Bool, true, false, cond}
 use mathlib.Core.List.{List, []}
 use Prim.Native.Nat.{ℕ, zero, suc, _+_, _-_, _*_, _^_, _≤_, _<_}
 use native.Mathlib.Nat.{mul-assoc, pow-succ'}
 use native.Mathlib.Omega.{arith}
-use lib.ListN.{length, take, drop}
+use lib.ListN.{length, take, drop, length-take}
 use lib.Dec.{leb}
 use borrow.Author.Tests.{le-leb, lt-leb, leb-true, leb-false}
-use Rattle.lent.specs.Bytes.{byteAt, numberAt, hasWindow, partOf}
+use Rattle.lent.specs.Bytes.{byteAt, numberAt, window, hasWindow, partOf}
 
 -- n + m bytes hold the number of the n low ones and, above them, that of the m others
 pub number-add : (s : List ℕ) (at n m : ℕ) → numberAt s at (n + m) ≡ numberAt s at n + 256 ^ n * numberAt s (at + n) m
@@ -40,3 +40,11 @@ part-in s at n h =
 pub part-out : (s : List ℕ) (at n : ℕ) → length s < at + n → [] ≡ partOf s at n
 unfolding partOf
 part-out s at n h = rw (lt-leb (at + n) (length s) h)
+
+-- a part is no longer than is asked for
+pub part-length : (s : List ℕ) (at n : ℕ) → length (partOf s at n) ≤ n
+unfolding partOf
+part-length s at n = go (hasWindow s at n) where
+  go : (p : Bool) → length (cond p (window s at n) []) ≤ n
+  go true = omega (arith, length-take n (drop at s))
+  go false = omega arith

@@ -3,6 +3,7 @@ use mathlib.Core.Path.{_≡_, refl, sym, ap}
 use mathlib.Core.Bool.{Bool, true, false, cond, _&&_, false≢true}
 use mathlib.Core.List.{List, [], _∷_}
 use Prim.Native.Nat.{ℕ, zero, suc, _+_, _-_, _*_, _≤_, _<_}
+use native.Mathlib.Nat.{not-suc-le-zero, mul-suc}
 use native.Mathlib.Omega.{arith}
 use Rattle.lent.specs.Scan.{gather, every, tally}
 
@@ -78,3 +79,18 @@ tally-add test read at (suc n) m =
     let f : at + suc n ≡ (at + 1) + n = omega arith in
     let ih = tally-add test read (at + 1) n m in
     rw (e, f) (omega arith)
+
+both : (a b : Bool) → (a && b) ≡ true → (a ≡ true) × (b ≡ true)
+both true b e = (refl, e)
+both false b e = absurd (false≢true e)
+
+-- what every one passes, the one at place k passes
+pub nth : {A : Type 0} (test : A → Bool) (read : ℕ → A) (step at n k : ℕ) → k < n → every test (gather read step at n) ≡ true → test (read (at + step * k)) ≡ true
+unfolding gather every
+nth test read step at zero k h e = absurd (not-suc-le-zero h)
+nth test read step at (suc n) zero h e =
+    let z : at + step * 0 ≡ at = omega arith in
+    rw z (both (test (read at)) (every test (gather read step (at + step) n)) e .0)
+nth test read step at (suc n) (suc k) h e =
+    let z : at + step * suc k ≡ (at + step) + step * k = simp mul-suc (omega arith) in
+    rw z (nth test read (step) (at + step) n k (omega arith) (both (test (read at)) (every test (gather read step (at + step) n)) e .1))

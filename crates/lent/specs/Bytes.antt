@@ -1,7 +1,7 @@
 -- Lent bytes, read so that any bytes will do: past the end there is a zero, and a part that does not lie inside is empty.
-use Prim.Native.Nat.{ℕ, zero, suc, _+_, _*_}
+use Prim.Native.Nat.{ℕ, zero, suc, _+_, _*_, _/_, _%_}
 use mathlib.Core.Bool.{Bool, cond}
-use mathlib.Core.List.{List, []}
+use mathlib.Core.List.{List, [], _∷_}
 use lib.Dec.{leb}
 use lib.ListN.{length, getD, take, drop}
 
@@ -12,6 +12,11 @@ byteAt s at = getD s at 0
 abbrev pub numberAt : List ℕ → ℕ → ℕ → ℕ
 numberAt s at zero = 0
 numberAt s at (suc n) = byteAt s at + 256 * numberAt s (at + 1) n
+
+-- the n low bytes of a number, low first
+abbrev pub bytesOf : ℕ → ℕ → List ℕ
+bytesOf zero v = []
+bytesOf (suc n) v = v % 256 ∷ bytesOf n (v / 256)
 
 -- n bytes from `at` on
 abbrev pub window : List ℕ → ℕ → ℕ → List ℕ

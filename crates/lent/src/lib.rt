@@ -46,6 +46,9 @@ pub fn u16_at(s: &[u8], at: usize) -> u16
     requires { ⌜ at < 17179869184 ⌝ }
     ensures { λ r. ⌜ r ≡ numberAt (now (s .entry)) at 2 ⌝ }
 {
+    if at + 1 < s.len() {
+        return u16_in(s, at);
+    }
     join(byte_at(s, at), byte_at(s, at + 1))
 }
 

@@ -1,0 +1,3 @@
+pub mod Fed
+pub mod Walks
+pub mod Prints

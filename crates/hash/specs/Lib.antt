@@ -1,0 +1,3 @@
+pub mod Walk
+pub mod Hash
+pub mod Parts

@@ -1,0 +1,163 @@
+// layout_hash of dbn's hash.rs, with levels and a budget of visits: fields in offset order at every level.
+ghost use mathlib.Core.Path.{_≡_};
+ghost use Prim.Native.Nat.{_+_, _*_, _<_, _≤_};
+ghost use lib.ListN.{length};
+ghost use Rattle.lent.specs.Bytes.{bytesOf};
+ghost use Rattle.crc64.specs.Sum.{byteTable, bytesStep};
+ghost use Rattle.field.specs.Field.{fieldsOf};
+ghost use Rattle.hash.specs.Walk.{fieldBytes, namesStruct, walkField, walkTable};
+ghost use Rattle.hash.specs.Hash.{hashOf};
+ghost use Rattle.hash.specs.Parts.{visitOf, near, told, FewFields};
+use crc64::Crc64;
+use crc64::bytewise;
+use field::FieldDef;
+use layout::block;
+use layout::block::Holder;
+use limits::refusal::Refusal;
+
+pub enum Hashed {
+    // The sum and the visits used.
+    Sum(u64, usize),
+    Refused(Refusal),
+}
+
+// What a field asks for: the walk goes on, or enters the struct whose head is named, or the budget is used up.
+enum Visit {
+    On(u64, usize),
+    Enter(u64, usize, usize),
+    Over,
+}
+
+// A field's own bytes.
+fn field_sum(t: &[u64; 256], start: u64, f: FieldDef) -> u64
+    requires { ⌜ now t ≡ byteTable ⌝ }
+    ensures { λ r. ⌜ r ≡ bytesStep start (fieldBytes f) ⌝ }
+{
+    let id = bytewise::step_u16(t, start, f.field_id);
+    let offset = bytewise::step_u16(t, id, f.offset);
+    let size = bytewise::step_u16(t, offset, f.size);
+    let kind = bytewise::step_u8(t, size, f.type_id);
+    let flags = bytewise::step_u8(t, kind, f.flags);
+    bytewise::step_u8(t, flags, field::scale_byte(f.scale))
+}
+
+fn names_struct(cat: &[u8], l: &[u8], f: FieldDef) -> bool
+    ensures { λ r. ⌜ r ≡ namesStruct (now (cat .entry)) (now (l .entry)) f ⌝ }
+{
+    let class = catalogue::class_of(cat, f.type_id);
+    let structs = block::count_of(Holder::Struct, l);
+    (class == catalogue::STRUCT) & (lent::wide16(f.def_index) < structs)
+}
+
+// A struct's size, which goes in before its fields: two bytes.
+fn size_sum(t: &[u64; 256], start: u64, size: usize) -> u64
+    requires { ⌜ now t ≡ byteTable ⌝ }
+    ensures { λ r. ⌜ r ≡ bytesStep start (bytesOf 2 size) ⌝ }
+{
+    let low = bytewise::step_u8(t, start, (size % 256) as u8);
+    bytewise::step_u8(t, low, (size / 256 % 256) as u8)
+}
+
+// All of a field's walk that does not enter anything.
+fn visited(
+    cat: &[u8],
+    l: &[u8],
+    t: &[u64; 256],
+    budget: usize,
+    f: FieldDef,
+    fp: u64,
+    visits: usize,
+) -> Visit
+    requires { ⌜ now t ≡ byteTable ⌝ }
+    ensures { λ r. ⌜ (r ≡ visitOf (now (cat .entry)) (now (l .entry)) budget f fp visits) × near r ⌝ }
+{
+    if budget <= visits {
+        return Visit::Over;
+    }
+    let sum = field_sum(t, fp, f);
+    if !names_struct(cat, l, f) {
+        return Visit::On(sum, visits + 1);
+    }
+    let head = block::struct_head(l, f.def_index);
+    let size = block::struct_size(l, head);
+    Visit::Enter(size_sum(t, sum, size), visits + 1, head)
+}
+
+// A field is hashed by hashing its struct: so many levels may be entered.
+fn hash_field(
+    cat: &[u8],
+    l: &[u8],
+    t: &[u64; 256],
+    levels: usize,
+    budget: usize,
+    f: FieldDef,
+    fp: u64,
+    visits: usize,
+) -> Hashed
+    requires { ⌜ (now t ≡ byteTable) × FewFields (now l) × (levels < 1024) ⌝ }
+    ensures { λ r. ⌜ r ≡ told (walkField bytesStep (now (cat .entry)) (now (l .entry)) budget (walkTable bytesStep (now (cat .entry)) (now (l .entry)) budget levels) f fp visits) ⌝ }
+{
+    match visited(cat, l, t, budget, f, fp, visits) {
+        Visit::On(sum, used) => Hashed::Sum(sum, used),
+        Visit::Enter(sum, used, head) => {
+            let table = block::table_at(Holder::Struct, l, head);
+            hash_table(cat, l, t, levels, budget, table, sum, used)
+        }
+        Visit::Over => Hashed::Refused(Refusal::OverBudget),
+    }
+}
+
+// And a table by hashing its fields, in offset order.
+fn hash_table(
+    cat: &[u8],
+    l: &[u8],
+    t: &[u64; 256],
+    levels: usize,
+    budget: usize,
+    table: &[u8],
+    start: u64,
+    used: usize,
+) -> Hashed
+    requires { ⌜ (now t ≡ byteTable) × FewFields (now l) × (levels < 1024) × (length (now table) ≤ 2048) ⌝ }
+    ensures { λ r. ⌜ r ≡ told (walkTable bytesStep (now (cat .entry)) (now (l .entry)) budget levels (fieldsOf (now (table .entry))) start used) ⌝ }
+{
+    if levels == 0 {
+        return Hashed::Refused(Refusal::TooDeep);
+    }
+    let n = table.len() / field::SIZE;
+    let mut order = [0u16; limits::MAX_FIELDS];
+    order::by_offset(table, n, &mut order);
+    let mut fp = start;
+    let mut visits = used;
+    let mut k = 0;
+    while k < n {
+        let f = field::field_at(table, lent::wide16(order[k]));
+        match hash_field(cat, l, t, levels - 1, budget, f, fp, visits) {
+            Hashed::Sum(sum, seen) => {
+                fp = sum;
+                visits = seen;
+            }
+            Hashed::Refused(refusal) => return Hashed::Refused(refusal),
+        }
+        k += 1;
+    }
+    Hashed::Sum(fp, visits)
+}
+
+// The hash of a record's table, with a budget of visits.
+pub fn hash_record(cat: &[u8], l: &[u8], budget: usize, table: &[u8]) -> Hashed
+    requires { ⌜ FewFields (now l) × (length (now table) ≤ 2048) ⌝ }
+    ensures { λ r. ⌜ r ≡ hashOf (now (cat .entry)) (now (l .entry)) budget (fieldsOf (now (table .entry))) ⌝ }
+{
+    let t = bytewise::table();
+    hash_table(
+        cat,
+        l,
+        &t,
+        limits::MAX_LEVEL,
+        budget,
+        table,
+        Crc64::EMPTY,
+        0,
+    )
+}
