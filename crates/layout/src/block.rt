@@ -79,6 +79,16 @@ pub fn record_base(l: &[u8], h: usize) -> usize
     lent::u32_at(l, h + 4)
 }
 
+// The stored layout hash.
+pub fn record_hash(l: &[u8], h: usize) -> u64
+    requires { ⌜ h < 4000000000 ⌝ }
+    ensures { λ r. ⌜ r ≡ recordAt (now (l .entry)) h .hash ⌝ }
+{
+    let low = h + 8;
+    let high = low + 4;
+    (lent::u32_at(l, low) + 4294967296 * lent::u32_at(l, high)) as u64
+}
+
 pub fn struct_size(l: &[u8], h: usize) -> usize
     requires { ⌜ h < 4000000000 ⌝ }
     ensures { λ r. ⌜ r ≡ structAt (now (l .entry)) h .size ⌝ }

@@ -4,8 +4,12 @@ use mathlib.Core.List.{List}
 use Prim.Native.Nat.{ℕ}
 use Rattle.admission.specs.Admission.{admitCatalogue, admitOf, statusOf}
 use Rattle.admission.specs.declared.Admitted.{Admitted}
-use Rattle.tuppenceowl.specs.Answers.{sizedOf, windowedOf, foundOf}
+use Rattle.tuppenceowl.specs.Answers.{sizedOf, windowedOf, foundOf, summedOf, bootedOf, summedStatus, hashOr, visitsOr}
+use Rattle.crc64.specs.Avro.{fingerprint}
+use Rattle.limits.specs.Limits.{defaultBudget}
 use Rattle.tuppenceowl.specs.declared.Sized.{Sized}
+use Rattle.tuppenceowl.specs.declared.hashing.Summed.{Summed}
+use Rattle.tuppenceowl.specs.declared.hashing.Booted.{Booted}
 use Rattle.tuppenceowl.specs.declared.Windowed.{Windowed}
 use Rattle.tuppenceowl.specs.declared.Found.{Found}
 
@@ -32,3 +36,24 @@ owl-check-catalogue-unique cat r s = equal
 
 pub owl-admit-unique : (cat layout : List ℕ) (r s : ℕ) → r ≡ statusOf (admitOf cat layout) → s ≡ statusOf (admitOf cat layout) → r ≡ s
 owl-admit-unique cat layout r s = equal
+
+-- ---- the sum, the hash and the boot check; `owl_sum` promises what `sum` does
+
+pub sum-unique : (bytes : List ℕ) (r s : ℕ) → r ≡ fingerprint bytes → s ≡ fingerprint bytes → r ≡ s
+sum-unique bytes r s = equal
+
+pub layout-hash-within-unique : (cat layout : List ℕ) (k budget : ℕ) (r s : Summed) → r ≡ summedOf cat layout k budget → s ≡ summedOf cat layout k budget → r ≡ s
+layout-hash-within-unique cat layout k budget r s = equal
+
+pub layout-hash-unique : (cat layout : List ℕ) (k : ℕ) (r s : Summed) → r ≡ summedOf cat layout k defaultBudget → s ≡ summedOf cat layout k defaultBudget → r ≡ s
+layout-hash-unique cat layout k r s = equal
+
+pub boot-check-unique : (cat layout : List ℕ) (k : ℕ) (r s : Booted) → r ≡ bootedOf cat layout k → s ≡ bootedOf cat layout k → r ≡ s
+boot-check-unique cat layout k r s = equal
+
+-- the status, and both numbers as they are left
+pub owl-layout-hash-unique : (cat layout : List ℕ) (k budget hash visits r h v s i w : ℕ)
+    → r ≡ summedStatus (summedOf cat layout k budget) → h ≡ hashOr (summedOf cat layout k budget) hash → v ≡ visitsOr (summedOf cat layout k budget) visits
+    → s ≡ summedStatus (summedOf cat layout k budget) → i ≡ hashOr (summedOf cat layout k budget) hash → w ≡ visitsOr (summedOf cat layout k budget) visits
+    → (r ≡ s) × (h ≡ i) × (v ≡ w)
+owl-layout-hash-unique cat layout k budget hash visits r h v s i w er eh ev es ei ew = (equal er es, equal eh ei, equal ev ew)

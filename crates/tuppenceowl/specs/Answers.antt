@@ -4,7 +4,8 @@ use mathlib.Core.Bool.{Bool, true, false, cond, _&&_}
 use mathlib.Core.List.{List}
 use lib.Dec.{leb, ltb, eqb}
 use lib.ListN.{length}
-use Rattle.limits.specs.Limits.{maxFields}
+use Rattle.limits.specs.Limits.{maxFields, defaultBudget}
+use Rattle.limits.specs.Refusal.{numberOf}
 use Rattle.limits.specs.declared.refusal.Refusal.{Refusal}
 use Rattle.limits.specs.declared.refusal.Refusal.the-variants.{BadShape, ReservedByte}
 use Rattle.lent.specs.Bytes.{hasWindow}
@@ -17,6 +18,13 @@ use Rattle.layout.specs.declared.block.Holder.the-variants.{Record}
 use Rattle.admission.specs.Admission.{admitOf}
 use Rattle.admission.specs.declared.Admitted.{Admitted}
 use Rattle.admission.specs.declared.Admitted.the-variants.{Fine, Refused}
+use Rattle.hash.specs.Hash.{hashOf}
+use Rattle.hash.specs.declared.Hashed.{Hashed}
+use Rattle.hash.specs.declared.Hashed.the-variants.{Sum, Refused as Unhashed}
+use Rattle.tuppenceowl.specs.declared.hashing.Summed.{Summed}
+use Rattle.tuppenceowl.specs.declared.hashing.Summed.the-variants.{Hash, NoRecord as NoSum, Refused as Unsummed}
+use Rattle.tuppenceowl.specs.declared.hashing.Booted.{Booted}
+use Rattle.tuppenceowl.specs.declared.hashing.Booted.the-variants.{Same, Different, NoRecord as NoneToBoot, Refused as Unbooted}
 use Rattle.tuppenceowl.specs.declared.Sized.{Sized}
 use Rattle.tuppenceowl.specs.declared.Sized.the-variants.{Bytes, NoRecord, Refused as Unsized}
 use Rattle.tuppenceowl.specs.declared.Windowed.{Windowed}
@@ -33,6 +41,45 @@ orSized (Refused refusal) rest = Unsized refusal
 unfoldable pub sizedOf : List ℕ → List ℕ → ℕ → Sized
 sizedOf cat l k =
     orSized (admitOf cat l) (cond (ltb k (countOf Record l)) (Bytes (recordSize (recordAt l (8 + 72 * k)))) NoRecord)
+
+-- the hash of record k, with the visits that it took
+abbrev pub asSummed : Hashed → Summed
+asSummed (Sum fp visits) = Hash fp visits
+asSummed (Unhashed refusal) = Unsummed refusal
+
+abbrev pub orSummed : Admitted → Summed → Summed
+orSummed Fine rest = rest
+orSummed (Refused refusal) rest = Unsummed refusal
+
+unfoldable pub summedOf : List ℕ → List ℕ → ℕ → ℕ → Summed
+summedOf cat l k budget =
+    orSummed (admitOf cat l)
+    (cond (ltb k (countOf Record l)) (asSummed (hashOf cat l budget (fieldsOf (recordAt l (8 + 72 * k) .table)))) NoSum)
+
+-- for hosts: the status, 255 where there is no such record, and what the two numbers lent become
+abbrev pub summedStatus : Summed → ℕ
+summedStatus (Hash fp visits) = 0
+summedStatus NoSum = 255
+summedStatus (Unsummed refusal) = numberOf refusal
+
+abbrev pub hashOr : Summed → ℕ → ℕ
+hashOr (Hash fp visits) found = fp
+hashOr NoSum found = found
+hashOr (Unsummed refusal) found = found
+
+abbrev pub visitsOr : Summed → ℕ → ℕ
+visitsOr (Hash fp visits) found = visits
+visitsOr NoSum found = found
+visitsOr (Unsummed refusal) found = found
+
+-- is it the hash that record k stores?
+abbrev pub asBooted : ℕ → Summed → Booted
+asBooted stored (Hash fp visits) = cond (eqb fp stored) Same Different
+asBooted stored NoSum = NoneToBoot
+asBooted stored (Unsummed refusal) = Unbooted refusal
+
+abbrev pub bootedOf : List ℕ → List ℕ → ℕ → Booted
+bootedOf cat l k = asBooted (recordAt l (8 + 72 * k) .hash) (summedOf cat l k defaultBudget)
 
 -- where a window starts and ends, if it lies inside
 abbrev pub windowedOf : List ℕ → ℕ → ℕ → Windowed

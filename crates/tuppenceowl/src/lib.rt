@@ -1,4 +1,6 @@
 // The public calls. Any bytes and numbers may be given to each; each answers as its definition in specs/ says.
+pub mod hashing;
+
 ghost use mathlib.Core.Path.{_≡_};
 ghost use Rattle.admission.specs.Admission.{admitCatalogue, admitOf, statusOf};
 ghost use Rattle.tuppenceowl.specs.Answers.{aloneOk, sizedOf, windowedOf, foundOf};
