@@ -6,6 +6,7 @@ use lib.Dec.{ltb}
 use lib.ListN.{length}
 use Rattle.lent.specs.Bytes.{bytesOf}
 use Rattle.crc64.specs.Sum.{bytesStep}
+use Rattle.field.specs.Field.{fieldAt}
 use Rattle.field.specs.declared.FieldDef.{FieldDef}
 use Rattle.layout.specs.Layout.{structAt, countOf, headsFrom}
 use Rattle.layout.specs.declared.block.Holder.the-variants.{Struct}
@@ -19,6 +20,10 @@ use Rattle.hash.specs.declared.Visit.the-variants.{On, Enter, Over}
 abbrev pub told : Walked ℕ → Hashed
 told (Went fp visits) = Sum fp visits
 told (Stopped refusal) = Refused refusal
+
+-- the bytes of the field in a row of 16 go into a sum
+abbrev pub rowStep : ℕ → List ℕ → ℕ
+rowStep fp row = bytesStep fp (fieldBytes (fieldAt row 0))
 
 -- where the head of the struct stands that a field names
 abbrev pub headOf : List ℕ → FieldDef → ℕ

@@ -7,7 +7,7 @@ ghost use Rattle.crc64.specs.Sum.{byteTable, bytesStep};
 ghost use Rattle.field.specs.Field.{fieldsOf};
 ghost use Rattle.hash.specs.Walk.{fieldBytes, namesStruct, walkField, walkTable};
 ghost use Rattle.hash.specs.Hash.{hashOf};
-ghost use Rattle.hash.specs.Parts.{visitOf, near, told, FewFields};
+ghost use Rattle.hash.specs.Parts.{visitOf, near, told, rowStep, FewFields};
 use crc64::Crc64;
 use crc64::bytewise;
 use field::FieldDef;
@@ -160,4 +160,24 @@ pub fn hash_record(cat: &[u8], l: &[u8], budget: usize, table: &[u8]) -> Hashed
         Crc64::EMPTY,
         0,
     )
+}
+
+// ---- a sum that is lent takes a field in, in place
+
+// The sum with a field's own bytes, of a row of 16 that is lent alone.
+fn with_row(crc: Crc64, row: &[u8]) -> Crc64
+    requires { ⌜ length (now row) ≡ 16 ⌝ }
+    ensures { λ r. ⌜ r .fp ≡ rowStep (crc .fp) (now (row .entry)) ⌝ }
+{
+    let t = bytewise::table();
+    Crc64 {
+        fp: field_sum(&t, crc.fp, field::field_in(row, 0)),
+    }
+}
+
+pub fn add_field(crc: &mut Crc64, row: &[u8])
+    requires { ⌜ length (now row) ≡ 16 ⌝ }
+    ensures { λ _. ⌜ now (crc .exit) .fp ≡ rowStep (now (crc .entry) .fp) (now (row .entry)) ⌝ }
+{
+    *crc = with_row(*crc, row);
 }
