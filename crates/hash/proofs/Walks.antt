@@ -1,6 +1,6 @@
 -- Turns of the walk that the code makes: one that feeds a sum. Assumes nothing.
 use mathlib.Core.Path.{_≡_, refl, sym, ap, _∙_, subst}
-use mathlib.Core.Bool.{Bool, true, false, cond, _&&_, false≢true}
+use mathlib.Core.Bool.{Bool, true, false, cond, _&&_}
 use mathlib.Core.List.{List, [], _∷_, map}
 use Prim.Native.Nat.{ℕ, zero, suc, _+_, _-_, _*_, _/_, _≤_, _<_}
 use native.Mathlib.Numerals.{add-one}
@@ -13,6 +13,7 @@ use Rattle.limits.specs.declared.refusal.Refusal.{Refusal}
 use Rattle.limits.specs.declared.refusal.Refusal.the-variants.{OverBudget, TooDeep}
 use Rattle.lent.specs.Bytes.{bytesOf}
 use Rattle.lent.specs.Scan.{gather}
+use Rattle.lent.proofs.Scan.{both}
 use Rattle.catalogue.specs.Catalogue.{classOf, struct}
 use Rattle.crc64.specs.Sum.{bytesStep}
 use Rattle.field.specs.Field.{fieldAt, fieldsOf}
@@ -44,10 +45,6 @@ picked : (enter : List FieldDef → ℕ → ℕ → Walked ℕ) (l : List ℕ) (
 picked enter l true true a b = refl
 picked enter l true false a b = refl
 picked enter l false q a b = refl
-
-both : (a b : Bool) → (a && b) ≡ true → (a ≡ true) × (b ≡ true)
-both true b e = (refl, e)
-both false b e = absurd (false≢true e)
 
 module _ (cat l : List ℕ) (budget : ℕ) (f : FieldDef) (fp visits : ℕ) where
   enters : Visit

@@ -1,6 +1,6 @@
 -- What a layout of the right shape gives its readers. Assumes nothing.
-use mathlib.Core.Path.{_≡_, refl}
-use mathlib.Core.Bool.{Bool, true, false, _&&_, false≢true}
+use mathlib.Core.Path.{_≡_}
+use mathlib.Core.Bool.{Bool, true, false, _&&_}
 use mathlib.Core.List.{List}
 use Prim.Native.Nat.{ℕ, _+_, _*_, _%_, _≤_, _<_}
 use native.Mathlib.Omega.{arith}
@@ -11,14 +11,10 @@ use Rattle.limits.specs.Limits.{maxBytes, maxFields, maxStructFields}
 use Rattle.lent.specs.Bytes.{numberAt}
 use Rattle.lent.specs.Scan.{every}
 use Rattle.lent.proofs.Bytes.{part-length}
-use Rattle.lent.proofs.Scan.{nth}
+use Rattle.lent.proofs.Scan.{both, nth}
 use Rattle.layout.specs.Layout.{startAt, lengthAt, recordAt, structAt, countOf, headsFrom, heads}
 use Rattle.layout.specs.Shape.{nameOk, partOk, tableShape, namesShape, recordShape, structShape, headShape, countsOk, shapeOk}
 use Rattle.layout.specs.declared.block.Holder.the-variants.{Record, Struct}
-
-both : (a b : Bool) → (a && b) ≡ true → (a ≡ true) × (b ≡ true)
-both true b e = (refl, e)
-both false b e = absurd (false≢true e)
 
 few : (l : List ℕ) (at most : ℕ) → tableShape l at most ≡ true → lengthAt l at ≤ 16 * most
 few l at most e =

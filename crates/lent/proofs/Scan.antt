@@ -80,7 +80,8 @@ tally-add test read at (suc n) m =
     let ih = tally-add test read (at + 1) n m in
     rw (e, f) (omega arith)
 
-both : (a b : Bool) → (a && b) ≡ true → (a ≡ true) × (b ≡ true)
+-- both of two tests pass
+pub both : (a b : Bool) → (a && b) ≡ true → (a ≡ true) × (b ≡ true)
 both true b e = (refl, e)
 both false b e = absurd (false≢true e)
 

@@ -1,6 +1,6 @@
 -- Fields that follow each other lie apart, and the order that they stand in does not matter to that. Assumes nothing.
 use mathlib.Core.Path.{_≡_, refl, sym, ap, _∙_}
-use mathlib.Core.Bool.{Bool, true, false, cond, not, _&&_, false≢true}
+use mathlib.Core.Bool.{Bool, true, false, cond, not, _&&_}
 use mathlib.Core.List.{List, [], _∷_, map}
 use Prim.Native.Nat.{ℕ, zero, suc, _+_, _-_, _≤_, _<_, min, max}
 use native.Mathlib.Numerals.{add-one}
@@ -10,15 +10,12 @@ use lib.Dec.{leb, ltb}
 use lib.ListN.{length, getD, take, drop, drop-of-length-le, length-take}
 use lib.Seq.{drop-cons, getD-take, length-take-le}
 use Rattle.lent.specs.Scan.{every}
+use Rattle.lent.proofs.Scan.{both}
 use Rattle.field.specs.Field.{endOf}
 use Rattle.field.specs.declared.FieldDef.{FieldDef}
 use Rattle.order.specs.Order.{insert, byOffset}
 use Rattle.table.specs.Table.{shareByte, clearOf, apart}
 use Rattle.table.specs.Parts.{chain}
-
-both : (a b : Bool) → (a && b) ≡ true → (a ≡ true) × (b ≡ true)
-both true b e = (refl, e)
-both false b e = absurd (false≢true e)
 
 -- ---- fields that follow each other lie apart
 
