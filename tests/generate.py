@@ -1,7 +1,7 @@
 """Random admitted layouts, and case lines that ask about them and about bytes. All from one random.Random."""
 from model import *
 
-MOST_LEVELS, MOST_BLOCK = 8, 32768
+MOST_BLOCK = 32768
 
 # with the ids of enums, bit sets, floats and timestamps, which the judge knows too (judge/src/v4/fields.rs)
 KINDS = {

@@ -8,7 +8,7 @@
 
 Each case states its answer; the model (tests/model.py), written from the rules and not from the code, must give the same.
 """
-import os, random, subprocess, sys
+import os, random, struct, subprocess, sys
 
 from model import *
 
@@ -53,6 +53,22 @@ class Cases:
     def field(self, table, k, answer):
         assert answer == field_of(table, k), field_of(table, k)
         self.put(f"field\t{table.hex()}\t{k}", answer)
+
+    def sum(self, content, answer):
+        assert answer == sum_text(content), (content, sum_text(content))
+        self.put(f"sum\t{content.hex()}", answer)
+
+    def hash(self, k, answer):
+        assert answer == hash_text(self.cat, self.block, k), (k, hash_text(self.cat, self.block, k))
+        self.put(f"hash\t{k}", answer)
+
+    def visits(self, k, budget, answer):
+        assert answer == visits_text(self.cat, self.block, k, budget), (k, budget, visits_text(self.cat, self.block, k, budget))
+        self.put(f"visits\t{k}\t{budget}", answer)
+
+    def boot(self, k, answer):
+        assert answer == boot_text(self.cat, self.block, k), (k, boot_text(self.cat, self.block, k))
+        self.put(f"boot\t{k}", answer)
 
 
 def with_kind(type_id, kind, width):
@@ -267,9 +283,166 @@ def fields(c):
         c.field(table[:32] + bytes(place) + b"\1" + bytes(15 - place), 0, "r3")
 
 
+# ---- sums and hashes
+
+NO_BYTES = "c15d213aa4d7a795"
+IN_STRUCT = field(6, 0, 1, NESTED)
+
+
+def fed(*parts):
+    """the sum of parts: fields without their def_index, and structs' sizes"""
+    return sum_text(b"".join(p[:8] + p[10:11] if len(p) == 16 else p for p in parts))
+
+
+def two(size):
+    return struct.pack("<H", size)
+
+
+def naming(index, offset=0, field_id=6):
+    return field(field_id, offset, 1, NESTED, def_index=index)
+
+
+def chain(count, last):
+    """structs that each hold the next one, and the last of them: a record that names the first has it at level count + 1"""
+    return [nested([naming(i + 1)]) for i in range(count - 1)] + [last]
+
+
+def sums(c):
+    c.title("sums: the four fingerprints of the Avro specification, no bytes, and what leaves only the shift")
+    for text, answer in (("null", "63dd24e7cc258f8a"), ("boolean", "9f42fc78a4d4f764"), ("int", "7275d51a3f395c8f"), ("string", "8f014872634503c7")):
+        c.sum(f'"{text}"'.encode(), answer)
+    c.sum(b"", NO_BYTES)
+    c.sum(b"\x95", "00c15d213aa4d7a7")
+    c.sum(bytes(range(256)), fed(bytes(range(256))))
+    for line in ("sum", "sum\tzz", "sum\t0", "sum\t00\t00", "hash", "hash\t", "hash\tx", "visits\t0", "visits\t0\t-1", "boot", "boot\t0\t0"):
+        c.put(line, "?")
+
+
+def levels(c):
+    byte_field = field(7, 3, 1, U8)
+    c.layout("a record with no fields", 0, layout([record([])]))
+    c.hash(0, NO_BYTES)
+    c.hash(1, "none")
+    for budget in (0, 1, 999999999):
+        c.visits(0, budget, NO_BYTES + " 0")
+    c.visits(1, 0, "none")
+    deep = layout([record([IN_STRUCT])], chain(7, nested([byte_field])))
+    c.layout("structs down to level 8", 0, deep)
+    down = fed(*[IN_STRUCT, two(16)] * 7, byte_field)
+    c.hash(0, down)
+    c.visits(0, 8, down + " 8")
+    for last, word in ((nested([byte_field]), "a struct with a field"), (nested([], 0), "an empty struct"), (nested([naming(8)]), "a struct that names none")):
+        c.layout(f"{word} at level 8, and at level 9", 0, layout([record([naming(1)]), record([naming(0)])], chain(8, last)))
+        c.hash(0, fed(*[IN_STRUCT, two(16)] * 6, IN_STRUCT, two(last["size"]), *last["fields"]))
+        c.hash(1, "r12")
+        c.visits(1, 999999999, "r12")
+    c.layout("a struct that holds itself", 0, layout([record([IN_STRUCT])], [nested([IN_STRUCT])]))
+    c.hash(0, "r12")
+    c.boot(0, "r12")
+    c.layout("two structs that hold each other, and a record beside them", 0, layout([record([naming(1)]), record([byte_field])], [nested([naming(1)]), nested([naming(0)])]))
+    c.hash(0, "r12")
+    c.hash(1, fed(byte_field))
+
+
+def walks(c):
+    a, b = field(3, 8, 8, U64, EXTENSION, 3, -9), field(2, 16, 2, I16, ARRAY, 4, 5)
+    for index in (0, 1, 256, 65535):
+        c.layout(f"no structs, and a field that names struct {index}", 0, layout([record([naming(index)])]))
+        c.hash(0, fed(IN_STRUCT))
+    for index in (1, 2, 16, 256, 65535):
+        c.layout(f"one struct, and a field that names struct {index}", 0, layout([record([naming(index)])], [nested([a], 300)]))
+        c.visits(0, 1, fed(IN_STRUCT) + " 1")
+    c.layout("the same that names the struct", 0, layout([record([naming(0)])], [nested([a], 300)]))
+    c.visits(0, 2, fed(IN_STRUCT, two(300), a) + " 2")
+    one, other = [a, b, naming(0)], [b, naming(0), a]
+    for fields in (one, other, one[::-1]):
+        c.layout("fields in some order", 0, layout([record(fields)], [nested([b, a], 4096)]))
+        c.hash(0, fed(naming(0), two(4096), a, b, a, b))
+        c.layout("and in the struct", 0, layout([record(fields)], [nested([a, b], 4096)]))
+        c.hash(0, fed(naming(0), two(4096), a, b, a, b))
+    c.layout("names, base, rtype, schema and the stored hash go unread", 0, layout([record([a], 9, "q", 7, 8, 9, ["z"])]))
+    c.hash(0, fed(a))
+    c.layout("every number at its highest", 0, layout([record([field(65535, 4095, 1, 255, 255, 65535, -1)])]))
+    c.hash(0, sum_text(b"\xff\xff\xff\x0f\x01\0\xff\xff\xff"))
+
+
+def budgets(c):
+    c.layout("the sample", 0, layout(*sample()))
+    r, s = sample()
+    header = (two(16), *s[0]["fields"])
+    first, second = fed(HD, *header, *r[0]["fields"][1:]), fed(HD, *header, *r[1]["fields"][::2])
+    for k, visits, answer in ((0, 7, first), (1, 5, second)):
+        c.hash(k, answer)
+        c.visits(k, visits, f"{answer} {visits}")
+        c.visits(k, visits + 1, f"{answer} {visits}")
+        c.visits(k, visits - 1, "r13")
+        c.visits(k, 0, "r13")
+    c.hash(2, "none")
+    c.visits(2, 0, "none")
+    c.layout("one field", 0, layout([record([SEQUENCE])]))
+    c.visits(0, 0, "r13")
+    c.visits(0, 1, fed(SEQUENCE) + " 1")
+    c.layout("too deep, or too many visits: the walk tells which comes first", 0, layout([record([IN_STRUCT]), record([field(1, 0, 1, U8), naming(0, 1)]), record([naming(0), field(1, 1, 1, U8)])], [nested([IN_STRUCT])]))
+    for k, budget, answer in ((0, 7, "r13"), (0, 8, "r12"), (1, 8, "r13"), (1, 9, "r12"), (2, 7, "r13"), (2, 8, "r12")):
+        c.visits(k, budget, answer)
+
+
+def full_budget(c):
+    """structs of 32 fields that name the next: 33 visits, 1,057 and 33,825"""
+    lists, structs = [[]], []
+    for index in (16, 2, 1):
+        row = [naming(index, i) for i in range(32)]
+        lists.append([two(32), *(p for f in row for p in (f, *lists[-1]))])
+        structs.insert(0, nested(row, 32))
+    middle, large = lists[2:]
+    some = [naming(1, i) for i in range(1, 31)]
+    last, more = field(1, 31, 1, U8), field(2, 32, 1, U8)
+    c.layout("65,536 visits, one more, and 33,825", 0, layout([record([naming(0), *some, last]), record([naming(0), *some, last, more]), record([naming(0)])], structs))
+    whole = [naming(0), *large, *(p for f in some for p in (f, *middle)), last]
+    c.hash(0, fed(*whole))
+    c.visits(0, 65536, fed(*whole) + " 65536")
+    c.visits(0, 65535, "r13")
+    c.hash(1, "r13")
+    c.boot(1, "r13")
+    c.visits(1, 65537, fed(*whole, more) + " 65537")
+    c.visits(2, 33825, fed(naming(0), *large) + " 33825")
+    c.visits(2, 33824, "r13")
+
+
+def boots(c):
+    right = int(fed(SEQUENCE), 16)
+    stored = [right, right ^ 1, right ^ 1 << 63, 0]
+    c.layout("stored hashes: right, the lowest bit wrong, the highest bit wrong, none", 0, layout([record([SEQUENCE], stored=h) for h in stored]))
+    for k, answer in enumerate(("same", "different", "different", "different", "none")):
+        c.boot(k, answer)
+    c.layout("no fields, and the sum of nothing stored", 0, layout([record([], stored=int(NO_BYTES, 16))]))
+    c.boot(0, "same")
+    c.layout("a layout that is not admitted", 4, layout([record([field(1, 4095, 2, CSTR)], 0)]))
+    for ask in (c.hash, c.boot, lambda k, answer: c.visits(k, 0, answer)):
+        ask(0, "r4")
+        ask(7, "r4")
+
+
+def hashes(c):
+    for some in (sums, levels, walks, budgets, full_budget, boots):
+        some(c)
+
+
+def recorded(c):
+    """what the Rust answered (tests/compare --record)"""
+    lines = open(os.path.join(ROOT, "tests", "recorded.cases")).read().split("\n")[:-1]
+    for line, answer in zip(lines[::2], lines[1::2]):
+        word, content = line.split("\t")
+        content = int(content) if word in ("hash", "size") else bytes.fromhex(content)
+        if word in ("catalogue", "layout"):
+            getattr(c, word)("answered by the Rust", 0, content)
+        else:
+            getattr(c, word)(content, answer)
+
+
 def fixed():
     c = Cases()
-    for part_of_list in (catalogues, pairs, shapes, limits, overlaps, widths, sizes, windows, fields):
+    for part_of_list in (catalogues, pairs, shapes, limits, overlaps, widths, sizes, windows, fields, hashes, recorded):
         if part_of_list is not catalogues and not valid(c.cat):
             c.catalogue("a valid catalogue", 0, catalogue())
         part_of_list(c)

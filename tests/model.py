@@ -190,3 +190,85 @@ def field_of(table, k):
     if k >= len(table) // 16:
         return "none"
     return " ".join(map(str, decode(table[16 * k :]) + (0,)))
+
+
+# ---- the layout hash: bits, levels and a budget, read afresh
+
+EMPTY_SUM, MOST_LEVELS, DEFAULT_BUDGET = 0xC15D213AA4D7A795, 8, 65536
+TOO_DEEP, OVER_BUDGET = 12, 13
+
+
+def crc(content):
+    """CRC-64-AVRO, a bit at a time"""
+    fp = EMPTY_SUM
+    for b in content:
+        fp ^= b
+        for _ in range(8):
+            fp = (fp >> 1) ^ (EMPTY_SUM if fp & 1 else 0)
+    return fp
+
+
+class Stopped(Exception):
+    pass
+
+
+class Walk:
+    """the bytes that a hash is the sum of, and the visits"""
+
+    def __init__(self, cat, l, budget):
+        self.cat, self.l, self.budget, self.visits, self.fed = cat, l, budget, 0, bytearray()
+
+    def struct_named(self, row):
+        type_id, def_index = row[6], number(row, 8, 2)
+        if self.cat[type_id] >> 4 != STRUCT or def_index >= number(self.l, 2, 2):
+            return None
+        return 8 + 72 * number(self.l, 0, 2) + 48 * def_index
+
+    def table(self, table, level):
+        if level > MOST_LEVELS:
+            raise Stopped(TOO_DEEP)
+        for row in sorted(rows(table), key=lambda row: number(row, 2, 2)):
+            if self.visits == self.budget:
+                raise Stopped(OVER_BUDGET)
+            self.visits += 1
+            self.fed += row[:8] + row[10:11]
+            head = self.struct_named(row)
+            if head is not None:
+                self.fed += self.l[head : head + 2]
+                self.table(part(self.l, head + 4), level + 1)
+
+
+def hash_within(cat, l, k, budget):
+    """the hash and the visits, or what is said instead"""
+    refusal = admit(cat, l)
+    if refusal:
+        return f"r{refusal}"
+    if k >= number(l, 0, 2):
+        return "none"
+    walk = Walk(cat, l, budget)
+    try:
+        walk.table(part(l, 8 + 72 * k + 16), 1)
+    except Stopped as stopped:
+        return f"r{stopped.args[0]}"
+    return crc(walk.fed), walk.visits
+
+
+def sum_text(content):
+    return f"{crc(content):016x}"
+
+
+def hash_text(cat, l, k):
+    got = hash_within(cat, l, k, DEFAULT_BUDGET)
+    return got if isinstance(got, str) else f"{got[0]:016x}"
+
+
+def visits_text(cat, l, k, budget):
+    got = hash_within(cat, l, k, budget)
+    return got if isinstance(got, str) else f"{got[0]:016x} {got[1]}"
+
+
+def boot_text(cat, l, k):
+    got = hash_within(cat, l, k, DEFAULT_BUDGET)
+    if isinstance(got, str):
+        return got
+    return "same" if got[0] == number(l, 8 + 72 * k + 8, 8) else "different"

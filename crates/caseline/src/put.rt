@@ -46,3 +46,23 @@ pub fn signed(out: &mut [u8], at: usize, n: i8) -> usize {
     }
     number(out, at, magnitude(n))
 }
+
+fn hex_digit(n: u8) -> u8 {
+    if n < 10 {
+        return b'0' + n;
+    }
+    b'a' + (n - 10) % 16
+}
+
+// A number in sixteen digits.
+pub fn hex(out: &mut [u8], at: usize, n: u64) -> usize {
+    let mut digits = [b'0'; 16];
+    let mut left = n;
+    let mut i: usize = 16;
+    while i > 0 {
+        i -= 1;
+        digits[i] = hex_digit((left % 16) as u8);
+        left = left / 16;
+    }
+    text(out, at, &digits)
+}

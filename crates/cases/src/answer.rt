@@ -45,3 +45,20 @@ pub fn field(out: &mut [u8], f: field::FieldDef) -> usize {
     let scale = put::signed(out, blank, f.scale);
     put::next(out, scale, f.reserved)
 }
+
+pub fn hash(out: &mut [u8], fp: u64) -> usize {
+    put::hex(out, 0, fp)
+}
+
+pub fn hash_and_visits(out: &mut [u8], fp: u64, visits: usize) -> usize {
+    let end = put::hex(out, 0, fp);
+    put::next(out, end, visits)
+}
+
+pub fn same(out: &mut [u8]) -> usize {
+    put::text(out, 0, b"same")
+}
+
+pub fn different(out: &mut [u8]) -> usize {
+    put::text(out, 0, b"different")
+}

@@ -1,5 +1,6 @@
 // What each word asks. A function for each takes the line apart, calls, and puts the answer into out.
 use crate::answer;
+use crate::hashes;
 use crate::kept;
 use crate::kept::Catalogue;
 use crate::kept::Sizes;
@@ -106,7 +107,7 @@ fn asked(line: &[u8], cat: &[u8], layout: &[u8], table: &mut Table, out: &mut [u
     if check::same(word, b"field") {
         return ask_field(line, table, out);
     }
-    answer::malformed(out)
+    hashes::asked(line, cat, layout, table, out)
 }
 
 // The answer to a line, put into out: how many bytes it has.
