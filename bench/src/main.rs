@@ -4,7 +4,7 @@ mod measure;
 mod port;
 
 use judge::block;
-use judge::layout::{LayoutIndex, StreamLayout};
+use judge::layout::{wire, LayoutIndex, StreamLayout};
 use measure::Call;
 use std::hint::black_box;
 
@@ -15,6 +15,8 @@ struct Inputs {
     shuffled: Vec<u8>,
     reversed: Vec<u8>,
     thirty: StreamLayout,
+    hashed: Vec<(u16, Vec<u8>, StreamLayout)>,
+    kibibyte: Vec<u8>,
     scaling: Vec<(u16, Vec<u8>)>,
 }
 
@@ -26,9 +28,17 @@ impl Inputs {
             shuffled: inputs::shuffled(128),
             reversed: inputs::reversed(128),
             thirty: block::layout(&inputs::in_order(30)),
+            hashed: [30, 128].map(hashed).into(),
+            kibibyte: (0..1024u32).map(|i| (i * i / 7) as u8).collect(),
             scaling: [16, 32, 64, 128].map(|n| (n, inputs::in_order(n))).into(),
         }
     }
+}
+
+fn hashed(n: u16) -> (u16, Vec<u8>, StreamLayout) {
+    let bytes = inputs::in_order(n);
+    let layout = block::layout(&bytes);
+    (n, bytes, layout)
 }
 
 // ---- calls
@@ -71,6 +81,32 @@ fn layout_hash(layout: &StreamLayout) -> Call<'_> {
     })
 }
 
+/// Admission and the hash.
+fn admit_and_hash<'a>(catalogue: &'a [u8], bytes: &'a [u8], layout: &'a StreamLayout) -> Call<'a> {
+    let theirs = layout.record_layouts[0].layout_hash(&layout.struct_layouts);
+    assert_eq!(
+        port::layout_hash(catalogue, bytes),
+        Some(theirs),
+        "the hashes differ"
+    );
+    Box::new(move || {
+        black_box(port::layout_hash(black_box(catalogue), black_box(bytes)));
+    })
+}
+
+fn sum(bytes: &[u8]) -> Call<'_> {
+    assert_eq!(port::sum(bytes), wire::hash::sum(bytes), "the sums differ");
+    Box::new(move || {
+        black_box(port::sum(black_box(bytes)));
+    })
+}
+
+fn rust_sum(bytes: &[u8]) -> Call<'_> {
+    Box::new(move || {
+        black_box(wire::hash::sum(black_box(bytes)));
+    })
+}
+
 // ---- rows: an entry for each
 
 /// How the row ends: nothing more, how much of the Rust's time the port may take, or how many fields share its time.
@@ -96,42 +132,70 @@ fn row<'a>(what: &str, ours: Call<'a>, theirs: Call<'a>, ends: Ends) -> Row<'a> 
     }
 }
 
-fn rows(i: &Inputs) -> Vec<Row<'_>> {
-    let mut all = vec![
+/// The hash, which admits the layout first, and that admission alone: the difference is what hashing takes.
+fn hash_rows<'a>(
+    catalogue: &'a [u8],
+    (n, bytes, layout): &'a (u16, Vec<u8>, StreamLayout),
+) -> [Row<'a>; 2] {
+    [
         row(
-            "admission of one record of 128 fields in offset order, `LayoutIndex::new`",
-            admit(&i.catalogue, &i.ordered),
-            index_new(&i.ordered),
-            Ends::Plain,
+            &format!("layout hash of {n} fields with admission, `layout_hash`"),
+            admit_and_hash(catalogue, bytes, layout),
+            layout_hash(layout),
+            Ends::Fields(*n),
         ),
         row(
-            "admission of one record of 128 fields shuffled, `LayoutIndex::new`",
-            admit(&i.catalogue, &i.shuffled),
-            index_new(&i.shuffled),
-            Ends::Plain,
+            &format!("that admission alone ({n} fields), `layout_hash`"),
+            admit(catalogue, bytes),
+            layout_hash(layout),
+            Ends::Fields(*n),
         ),
-        row(
-            "admission of one record of 128 fields from the last to the first, `LayoutIndex::new`",
-            admit(&i.catalogue, &i.reversed),
-            index_new(&i.reversed),
-            Ends::Plain,
-        ),
-        row(
-            "catalogue check, `layout_hash` of 30 fields",
-            check_catalogue(&i.catalogue),
-            layout_hash(&i.thirty),
-            Ends::Most(1.0 / 3.0),
-        ),
+    ]
+}
+
+/// The same 128 fields in three orders.
+fn order_rows(i: &Inputs) -> Vec<Row<'_>> {
+    let orders: [(&str, &[u8]); 3] = [
+        ("in offset order", &i.ordered),
+        ("shuffled", &i.shuffled),
+        ("from the last to the first", &i.reversed),
     ];
-    for (n, layout) in &i.scaling {
-        let what = format!("admission of {n} fields in offset order, `LayoutIndex::new`");
-        all.push(row(
-            &what,
+    let one = |(order, layout)| {
+        row(
+            &format!("admission of one record of 128 fields {order}, `LayoutIndex::new`"),
             admit(&i.catalogue, layout),
             index_new(layout),
-            Ends::Fields(*n),
-        ));
-    }
+            Ends::Plain,
+        )
+    };
+    orders.map(one).into()
+}
+
+fn scaling_row<'a>(catalogue: &'a [u8], (n, layout): &'a (u16, Vec<u8>)) -> Row<'a> {
+    row(
+        &format!("admission of {n} fields in offset order, `LayoutIndex::new`"),
+        admit(catalogue, layout),
+        index_new(layout),
+        Ends::Fields(*n),
+    )
+}
+
+fn rows(i: &Inputs) -> Vec<Row<'_>> {
+    let mut all = order_rows(i);
+    all.push(row(
+        "catalogue check, `layout_hash` of 30 fields",
+        check_catalogue(&i.catalogue),
+        layout_hash(&i.thirty),
+        Ends::Most(1.0 / 3.0),
+    ));
+    all.push(row(
+        "sum of 1 KiB, `Crc64`",
+        sum(&i.kibibyte),
+        rust_sum(&i.kibibyte),
+        Ends::Plain,
+    ));
+    all.extend(i.hashed.iter().flat_map(|h| hash_rows(&i.catalogue, h)));
+    all.extend(i.scaling.iter().map(|s| scaling_row(&i.catalogue, s)));
     all
 }
 
