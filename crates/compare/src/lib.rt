@@ -104,7 +104,7 @@ fn is_id(t: &[u8], at: usize, id: u16) -> bool
     lent::u16_in(t, at) == id
 }
 
-// How many fields of other ids stand in front, four at a time: one way out for four.
+// How many fields of other ids stand in front, but for the last few: four in a turn.
 fn skipped(t: &[u8], id: u16) -> usize
     ensures { λ r. ⌜ Skips (now (t .entry)) id r ⌝ }
 {
@@ -112,10 +112,17 @@ fn skipped(t: &[u8], id: u16) -> usize
     let mut k = 0;
     while k + 4 <= n {
         let at = field::SIZE * k;
-        if is_id(t, at, id)
-            | (is_id(t, at + 16, id) | (is_id(t, at + 32, id) | is_id(t, at + 48, id)))
-        {
+        if is_id(t, at, id) {
             return k;
+        }
+        if is_id(t, at + 16, id) {
+            return k + 1;
+        }
+        if is_id(t, at + 32, id) {
+            return k + 2;
+        }
+        if is_id(t, at + 48, id) {
+            return k + 3;
         }
         k += 4;
     }

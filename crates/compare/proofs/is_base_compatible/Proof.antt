@@ -46,9 +46,9 @@ table-at-requires-2 c κs = search needs
 
 next-holds : tie.Need-next-holds Inv-loop μ-loop Inv-next μ-next
 next-holds c = (
-      omega arith,
-      base-larger (c .before .before .before .before .before .before .before .before .args .cat .now) (c .before .before .before .before .before .before .before .before .args .s .now) (recordAt (c .before .before .before .before .before .before .before .before .args .s .now) (c .before .before .before .before .before .before .before .before .args .h)) (c .before .before .before .before .before .before .before .before .args .c .now) (recordAt (c .before .before .before .before .before .before .before .before .args .c .now) (c .before .before .before .before .before .before .before .before .args .g)) (omega (arith, c .before .before .before .before .record-base .ensures, c .before .before .before .record-base2 .ensures)) _ _ (c .before .table-at .ensures) (c .table-at2 .ensures),
-    )
+  omega arith,
+  base-larger (c .before .before .before .before .before .before .before .before .args .cat .now) (c .before .before .before .before .before .before .before .before .args .s .now) (recordAt (c .before .before .before .before .before .before .before .before .args .s .now) (c .before .before .before .before .before .before .before .before .args .h)) (c .before .before .before .before .before .before .before .before .args .c .now) (recordAt (c .before .before .before .before .before .before .before .before .args .c .now) (c .before .before .before .before .before .before .before .before .args .g)) (omega (arith, c .before .before .before .before .record-base .ensures, c .before .before .before .record-base2 .ensures)) _ _ (c .before .table-at .ensures) (c .table-at2 .ensures),
+)
 
 field-in-requires : tie.Need-field-in-requires Inv-loop μ-loop Inv-next μ-next
 field-in-requires c κs = omega arith
@@ -67,10 +67,10 @@ next-less c = omega arith
 
 next-again : tie.Need-next-again Inv-loop μ-loop Inv-next μ-next
 next-again c = (
-      omega arith,
-      goes (fieldAt (c .before .before .before .before .before .table-at2 .result .now)) 16 (c .before .before .before .before .next .at) (c .before .before .before .before .next .left) (met (c .before .before .before .before .before .before .before .before .before .before .before .before .before .args .cat .now) (c .before .before .before .before .before .before .before .before .before .before .before .before .before .args .s .now) (fieldsOf (c .before .before .before .before .before .before .table-at .result .now)) (c .before .before .before .before .before .before .before .before .before .before .before .before .before .args .c .now)) _ (c .before .before .before .before .next .inv .1) (omega arith)
-          (met-padding (c .before .before .before .before .before .before .before .before .before .before .before .before .before .args .cat .now) (c .before .before .before .before .before .before .before .before .before .before .before .before .before .args .s .now) (fieldsOf (c .before .before .before .before .before .before .table-at .result .now)) (c .before .before .before .before .before .before .before .before .before .before .before .before .before .args .c .now) (fieldAt (c .before .before .before .before .before .table-at2 .result .now) (c .before .before .before .before .next .at)) _ (c .before .before .field-in .ensures) (sym (c .before .is-padding .ensures) ∙ c .if2 .taken)),
-    )
+  omega arith,
+  goes (fieldAt (c .before .before .before .before .before .table-at2 .result .now)) 16 (c .before .before .before .before .next .at) (c .before .before .before .before .next .left) (met (c .before .before .before .before .before .before .before .before .before .before .before .before .before .args .cat .now) (c .before .before .before .before .before .before .before .before .before .before .before .before .before .args .s .now) (fieldsOf (c .before .before .before .before .before .before .table-at .result .now)) (c .before .before .before .before .before .before .before .before .before .before .before .before .before .args .c .now)) _ (c .before .before .before .before .next .inv .1) (omega arith)
+      (met-padding (c .before .before .before .before .before .before .before .before .before .before .before .before .before .args .cat .now) (c .before .before .before .before .before .before .before .before .before .before .before .before .before .args .s .now) (fieldsOf (c .before .before .before .before .before .before .table-at .result .now)) (c .before .before .before .before .before .before .before .before .before .before .before .before .before .args .c .now) (fieldAt (c .before .before .before .before .before .table-at2 .result .now) (c .before .before .before .before .next .at)) _ (c .before .before .field-in .ensures) (sym (c .before .is-padding .ensures) ∙ c .if2 .taken)),
+)
 
 skipped-requires : tie.Need-skipped-requires Inv-loop μ-loop Inv-next μ-next
 skipped-requires c κs = search needs
@@ -92,11 +92,11 @@ next-less-2 c = omega arith
 
 next-again-2 : tie.Need-next-again-2 Inv-loop μ-loop Inv-next μ-next
 next-again-2 c = (
-      omega arith,
-      goes (fieldAt (c .before .before .before .before .before .before .before .before .before .before .table-at2 .result .now)) 16 (c .before .before .before .before .before .before .before .before .before .next .at) (c .before .before .before .before .before .before .before .before .before .next .left) (met (c .before .before .before .before .before .before .before .before .before .before .before .before .before .before .before .before .before .before .args .cat .now) (c .before .before .before .before .before .before .before .before .before .before .before .before .before .before .before .before .before .before .args .s .now) (fieldsOf (c .before .before .before .before .before .before .before .before .before .before .before .table-at .result .now)) (c .before .before .before .before .before .before .before .before .before .before .before .before .before .before .before .before .before .before .args .c .now)) _ (c .before .before .before .before .before .before .before .before .before .next .inv .1) (omega arith)
-          (met-found (c .before .before .before .before .before .before .before .before .before .before .before .before .before .before .before .before .before .before .args .cat .now) (c .before .before .before .before .before .before .before .before .before .before .before .before .before .before .before .before .before .before .args .s .now) (fieldsOf (c .before .before .before .before .before .before .before .before .before .before .before .table-at .result .now)) (c .before .before .before .before .before .before .before .before .before .before .before .before .before .before .before .before .before .before .args .c .now) (fieldAt (c .before .before .before .before .before .before .before .before .before .before .table-at2 .result .now) (c .before .before .before .before .before .before .before .before .before .next .at)) (c .before .before .before .before .before .before .before .field-in .result) (c .before .before .before .before .before .before .before .field-in .ensures)
-              (finds (fieldAt (c .before .before .before .before .before .before .before .before .before .before .before .table-at .result .now)) 16 (c .before .before .before .loop .from) (c .before .before .before .loop .rest) (λ have. fieldEq (c .before .before .before .before .before .before .before .before .before .before .before .before .before .before .before .before .before .before .args .cat .now) (c .before .before .before .before .before .before .before .before .before .before .before .before .before .before .before .before .before .before .args .s .now) have (c .before .before .before .before .before .before .before .before .before .before .before .before .before .before .before .before .before .before .args .c .now) (c .before .before .before .before .before .before .before .field-in .result)) _ (c .before .before .before .loop .inv .1) (omega arith) (sym (c .before .row-eq .ensures) ∙ c .if3 .taken))),
-    )
+  omega arith,
+  goes (fieldAt (c .before .before .before .before .before .before .before .before .before .before .table-at2 .result .now)) 16 (c .before .before .before .before .before .before .before .before .before .next .at) (c .before .before .before .before .before .before .before .before .before .next .left) (met (c .before .before .before .before .before .before .before .before .before .before .before .before .before .before .before .before .before .before .args .cat .now) (c .before .before .before .before .before .before .before .before .before .before .before .before .before .before .before .before .before .before .args .s .now) (fieldsOf (c .before .before .before .before .before .before .before .before .before .before .before .table-at .result .now)) (c .before .before .before .before .before .before .before .before .before .before .before .before .before .before .before .before .before .before .args .c .now)) _ (c .before .before .before .before .before .before .before .before .before .next .inv .1) (omega arith)
+      (met-found (c .before .before .before .before .before .before .before .before .before .before .before .before .before .before .before .before .before .before .args .cat .now) (c .before .before .before .before .before .before .before .before .before .before .before .before .before .before .before .before .before .before .args .s .now) (fieldsOf (c .before .before .before .before .before .before .before .before .before .before .before .table-at .result .now)) (c .before .before .before .before .before .before .before .before .before .before .before .before .before .before .before .before .before .before .args .c .now) (fieldAt (c .before .before .before .before .before .before .before .before .before .before .table-at2 .result .now) (c .before .before .before .before .before .before .before .before .before .next .at)) (c .before .before .before .before .before .before .before .field-in .result) (c .before .before .before .before .before .before .before .field-in .ensures)
+      (finds (fieldAt (c .before .before .before .before .before .before .before .before .before .before .before .table-at .result .now)) 16 (c .before .before .before .loop .from) (c .before .before .before .loop .rest) (λ have. fieldEq (c .before .before .before .before .before .before .before .before .before .before .before .before .before .before .before .before .before .before .args .cat .now) (c .before .before .before .before .before .before .before .before .before .before .before .before .before .before .before .before .before .before .args .s .now) have (c .before .before .before .before .before .before .before .before .before .before .before .before .before .before .before .before .before .before .args .c .now) (c .before .before .before .before .before .before .before .field-in .result)) _ (c .before .before .before .loop .inv .1) (omega arith) (sym (c .before .row-eq .ensures) ∙ c .if3 .taken))),
+)
 
 add-from : tie.Need-add-from Inv-loop μ-loop Inv-next μ-next
 add-from c = omega arith
@@ -109,9 +109,9 @@ loop-less c = omega arith
 
 loop-again : tie.Need-loop-again Inv-loop μ-loop Inv-next μ-next
 loop-again c = (
-      omega arith,
-      seeks (fieldAt (c .before .before .before .before .before .before .before .before .before .before .before .table-at .result .now)) 16 (c .before .before .before .loop .from) (c .before .before .before .loop .rest) (λ have. fieldEq (c .before .before .before .before .before .before .before .before .before .before .before .before .before .before .before .before .before .before .args .cat .now) (c .before .before .before .before .before .before .before .before .before .before .before .before .before .before .before .before .before .before .args .s .now) have (c .before .before .before .before .before .before .before .before .before .before .before .before .before .before .before .before .before .before .args .c .now) (c .before .before .before .before .before .before .before .field-in .result)) _ (c .before .before .before .loop .inv .1) (omega arith) (sym (c .before .row-eq .ensures) ∙ c .if3 .left),
-    )
+  omega arith,
+  seeks (fieldAt (c .before .before .before .before .before .before .before .before .before .before .before .table-at .result .now)) 16 (c .before .before .before .loop .from) (c .before .before .before .loop .rest) (λ have. fieldEq (c .before .before .before .before .before .before .before .before .before .before .before .before .before .before .before .before .before .before .args .cat .now) (c .before .before .before .before .before .before .before .before .before .before .before .before .before .before .before .before .before .before .args .s .now) have (c .before .before .before .before .before .before .before .before .before .before .before .before .before .before .before .before .before .before .args .c .now) (c .before .before .before .before .before .before .before .field-in .result)) _ (c .before .before .before .loop .inv .1) (omega arith) (sym (c .before .row-eq .ensures) ∙ c .if3 .left),
+)
 
 returns-2 : tie.Need-returns-2 Inv-loop μ-loop Inv-next μ-next
 returns-2 c =

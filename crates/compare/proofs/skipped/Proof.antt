@@ -1,9 +1,9 @@
--- The fields from k on decide; four more are passed over where none has the id.
-use Prim.Native.Nat.{_*_, _-_, _/_}
+-- The fields from k on decide, and each that has another id is passed over.
+use Prim.Native.Nat.{_*_, _+_, _-_, _/_}
 use lib.ListN.{length}
-use mathlib.Core.Path.{refl}
+use mathlib.Core.Path.{_∙_, _≡_, refl, sym}
 use native.Mathlib.Omega.{arith}
-use Rattle.compare.proofs.Skipping.{four-more, skips-none}
+use Rattle.compare.proofs.Skipping.{one-more, skips-none}
 use Rattle.compare.specs.Parts.{Skips}
 use Rattle.compare.proofs.skipped.Statement.{statement}
 use Rattle.compare.proofs.skipped.Tie as tie
@@ -26,26 +26,53 @@ mul-at c = omega arith
 is-id-requires : tie.Need-is-id-requires Inv-loop μ-loop
 is-id-requires c κs = omega (arith, c .before .loop .inv .within)
 
+returns : tie.Need-returns Inv-loop μ-loop
+returns c = c .before .before .before .loop .inv
+
 add-is-id : tie.Need-add-is-id Inv-loop μ-loop
 add-is-id c = omega arith
 
 is-id-requires-2 : tie.Need-is-id-requires-2 Inv-loop μ-loop
-is-id-requires-2 c κs = omega (arith, c .before .before .loop .inv .within)
+is-id-requires-2 c κs = omega (arith, c .before .before .before .loop .inv .within)
+
+add-result : tie.Need-add-result Inv-loop μ-loop
+add-result c = omega arith
+
+returns-2 : tie.Need-returns-2 Inv-loop μ-loop
+returns-2 c = one-more (c .before .before .before .before .before .before .before .args .t .now) (c .before .before .before .before .before .before .before .args .id) (c .before .before .before .before .before .loop .k) (16 * c .before .before .before .before .before .loop .k) (c .before .before .before .before .before .loop .inv) (omega arith) refl (sym (c .before .before .before .is-id .ensures) ∙ c .before .before .if1 .left)
 
 add-is-id-2 : tie.Need-add-is-id-2 Inv-loop μ-loop
 add-is-id-2 c = omega arith
 
 is-id-requires-3 : tie.Need-is-id-requires-3 Inv-loop μ-loop
-is-id-requires-3 c κs = omega (arith, c .before .before .before .loop .inv .within)
+is-id-requires-3 c κs = omega (arith, c .before .before .before .before .before .loop .inv .within)
+
+add-result-2 : tie.Need-add-result-2 Inv-loop μ-loop
+add-result-2 c = omega arith
+
+returns-3 : tie.Need-returns-3 Inv-loop μ-loop
+returns-3 c =
+    let w = one-more (c .before .before .before .before .before .before .before .before .before .args .t .now) (c .before .before .before .before .before .before .before .before .before .args .id) (c .before .before .before .before .before .before .before .loop .k) (16 * c .before .before .before .before .before .before .before .loop .k) (c .before .before .before .before .before .before .before .loop .inv) (omega arith) refl (sym (c .before .before .before .before .before .is-id .ensures) ∙ c .before .before .before .before .if1 .left) in
+    let x = one-more (c .before .before .before .before .before .before .before .before .before .args .t .now) (c .before .before .before .before .before .before .before .before .before .args .id) (c .before .before .before .before .before .before .before .loop .k + 1) (16 * c .before .before .before .before .before .before .before .loop .k + 16) w (omega arith) (omega arith) (sym (c .before .before .before .is-id2 .ensures) ∙ c .before .before .if2 .left) in
+    let e : c .before .before .before .before .before .before .before .loop .k + 2 ≡ c .before .before .before .before .before .before .before .loop .k + 1 + 1 = omega arith in
+    rw e x
 
 add-is-id-3 : tie.Need-add-is-id-3 Inv-loop μ-loop
 add-is-id-3 c = omega arith
 
 is-id-requires-4 : tie.Need-is-id-requires-4 Inv-loop μ-loop
-is-id-requires-4 c κs = omega (arith, c .before .before .before .before .loop .inv .within)
+is-id-requires-4 c κs = omega (arith, c .before .before .before .before .before .before .before .loop .inv .within)
 
-returns : tie.Need-returns Inv-loop μ-loop
-returns c = c .before .before .before .before .before .before .loop .inv
+add-result-3 : tie.Need-add-result-3 Inv-loop μ-loop
+add-result-3 c = omega arith
+
+returns-4 : tie.Need-returns-4 Inv-loop μ-loop
+returns-4 c =
+    let w = one-more (c .before .before .before .before .before .before .before .before .before .before .before .args .t .now) (c .before .before .before .before .before .before .before .before .before .before .before .args .id) (c .before .before .before .before .before .before .before .before .before .loop .k) (16 * c .before .before .before .before .before .before .before .before .before .loop .k) (c .before .before .before .before .before .before .before .before .before .loop .inv) (omega arith) refl (sym (c .before .before .before .before .before .before .before .is-id .ensures) ∙ c .before .before .before .before .before .before .if1 .left) in
+    let x = one-more (c .before .before .before .before .before .before .before .before .before .before .before .args .t .now) (c .before .before .before .before .before .before .before .before .before .before .before .args .id) (c .before .before .before .before .before .before .before .before .before .loop .k + 1) (16 * c .before .before .before .before .before .before .before .before .before .loop .k + 16) w (omega arith) (omega arith) (sym (c .before .before .before .before .before .is-id2 .ensures) ∙ c .before .before .before .before .if2 .left) in
+    let y = one-more (c .before .before .before .before .before .before .before .before .before .before .before .args .t .now) (c .before .before .before .before .before .before .before .before .before .before .before .args .id) (c .before .before .before .before .before .before .before .before .before .loop .k + 1 + 1) (16 * c .before .before .before .before .before .before .before .before .before .loop .k + 32) x (omega arith) (omega arith) (sym (c .before .before .before .is-id3 .ensures) ∙ c .before .before .if3 .left) in
+    let e : c .before .before .before .before .before .before .before .before .before .loop .k + 3 ≡ c .before .before .before .before .before .before .before .before .before .loop .k + 1 + 1 + 1 = omega arith in
+    rw e y
 
 add-k : tie.Need-add-k Inv-loop μ-loop
 add-k c = omega arith
@@ -54,10 +81,16 @@ loop-less : tie.Need-loop-less Inv-loop μ-loop
 loop-less c = omega arith
 
 loop-again : tie.Need-loop-again Inv-loop μ-loop
-loop-again c = four-more (c .before .before .before .before .before .before .before .before .args .t .now) (c .before .before .before .before .before .before .before .before .args .id) (c .before .before .before .before .before .before .loop .k) (16 * c .before .before .before .before .before .before .loop .k) (c .before .before .before .before .is-id .result) (c .before .before .before .is-id2 .result) (c .before .before .is-id3 .result) (c .before .is-id4 .result) (c .before .before .before .before .before .before .loop .inv) (omega arith) refl (c .before .before .before .before .is-id .ensures) (c .before .before .before .is-id2 .ensures) (c .before .before .is-id3 .ensures) (c .before .is-id4 .ensures) (c .if1 .left)
+loop-again c =
+    let w = one-more (c .before .before .before .before .before .before .before .before .before .before .before .args .t .now) (c .before .before .before .before .before .before .before .before .before .before .before .args .id) (c .before .before .before .before .before .before .before .before .before .loop .k) (16 * c .before .before .before .before .before .before .before .before .before .loop .k) (c .before .before .before .before .before .before .before .before .before .loop .inv) (omega arith) refl (sym (c .before .before .before .before .before .before .before .is-id .ensures) ∙ c .before .before .before .before .before .before .if1 .left) in
+    let x = one-more (c .before .before .before .before .before .before .before .before .before .before .before .args .t .now) (c .before .before .before .before .before .before .before .before .before .before .before .args .id) (c .before .before .before .before .before .before .before .before .before .loop .k + 1) (16 * c .before .before .before .before .before .before .before .before .before .loop .k + 16) w (omega arith) (omega arith) (sym (c .before .before .before .before .before .is-id2 .ensures) ∙ c .before .before .before .before .if2 .left) in
+    let y = one-more (c .before .before .before .before .before .before .before .before .before .before .before .args .t .now) (c .before .before .before .before .before .before .before .before .before .before .before .args .id) (c .before .before .before .before .before .before .before .before .before .loop .k + 1 + 1) (16 * c .before .before .before .before .before .before .before .before .before .loop .k + 32) x (omega arith) (omega arith) (sym (c .before .before .before .is-id3 .ensures) ∙ c .before .before .if3 .left) in
+    let z = one-more (c .before .before .before .before .before .before .before .before .before .before .before .args .t .now) (c .before .before .before .before .before .before .before .before .before .before .before .args .id) (c .before .before .before .before .before .before .before .before .before .loop .k + 1 + 1 + 1) (16 * c .before .before .before .before .before .before .before .before .before .loop .k + 48) y (omega arith) (omega arith) (sym (c .before .is-id4 .ensures) ∙ c .if4 .left) in
+    let e : c .before .before .before .before .before .before .before .before .before .loop .k + 4 ≡ c .before .before .before .before .before .before .before .before .before .loop .k + 1 + 1 + 1 + 1 = omega arith in
+    rw e z
 
-returns-2 : tie.Need-returns-2 Inv-loop μ-loop
-returns-2 c = c .before .loop .inv
+returns-5 : tie.Need-returns-5 Inv-loop μ-loop
+returns-5 c = c .before .loop .inv
 
 pub skipped-spec : {M : Type 1} → statement M
 skipped-spec =
@@ -69,14 +102,20 @@ skipped-spec =
     add-loop
     mul-at
     is-id-requires
+    returns
     add-is-id
     is-id-requires-2
+    add-result
+    returns-2
     add-is-id-2
     is-id-requires-3
+    add-result-2
+    returns-3
     add-is-id-3
     is-id-requires-4
-    returns
+    add-result-3
+    returns-4
     add-k
     loop-less
     loop-again
-    returns-2)
+    returns-5)
