@@ -1,4 +1,5 @@
 // The parts of a line of cases: words that tabs part, bytes in hex, numbers; and the answer that is put together.
+pub mod answer;
 pub mod put;
 
 ghost use Prim.Native.Nat.{_+_, _≤_};

@@ -1,11 +1,10 @@
-// What each word asks. A function for each takes the line apart, calls, and puts the answer into out.
-use crate::answer;
-use crate::hashes;
+// What each word keeps or asks: a crate for each group of words takes the line apart, calls, and puts the answer into out.
 use crate::kept;
 use crate::kept::Catalogue;
 use crate::kept::Sizes;
 use crate::kept::Table;
 use caseline::Parsed;
+use caseline::answer;
 
 // ---- words that keep something
 
@@ -46,68 +45,20 @@ fn admitted(a: tuppenceowl::Admitted, out: &mut [u8]) -> usize {
 
 // ---- words that ask
 
-fn ask_size(line: &[u8], cat: &[u8], layout: &[u8], out: &mut [u8]) -> usize {
-    if caseline::words(line) != 2 {
-        return answer::malformed(out);
-    }
-    let Parsed::Is(k) = caseline::number(caseline::word(line, 1)) else {
-        return answer::malformed(out);
-    };
-    match tuppenceowl::record_size(cat, layout, k) {
-        tuppenceowl::Sized::Bytes(n) => answer::bytes(out, n),
-        tuppenceowl::Sized::NoRecord => answer::nothing(out),
-        tuppenceowl::Sized::Refused(r) => answer::refused(out, r),
-    }
-}
-
-fn ask_window(line: &[u8], table: &mut Table, out: &mut [u8]) -> usize {
-    if caseline::words(line) != 4 {
-        return answer::malformed(out);
-    }
-    let Parsed::Is(n) = caseline::hex(caseline::word(line, 1), table) else {
-        return answer::malformed(out);
-    };
-    let Parsed::Is(offset) = caseline::number(caseline::word(line, 2)) else {
-        return answer::malformed(out);
-    };
-    let Parsed::Is(size) = caseline::number(caseline::word(line, 3)) else {
-        return answer::malformed(out);
-    };
-    match tuppenceowl::window(lent::part(table, 0, n), offset, size) {
-        tuppenceowl::Windowed::Within(start, end) => answer::pair(out, start, end),
-        tuppenceowl::Windowed::Past => answer::nothing(out),
-    }
-}
-
-fn ask_field(line: &[u8], table: &mut Table, out: &mut [u8]) -> usize {
-    if caseline::words(line) != 3 {
-        return answer::malformed(out);
-    }
-    let Parsed::Is(n) = caseline::hex(caseline::word(line, 1), table) else {
-        return answer::malformed(out);
-    };
-    let Parsed::Is(k) = caseline::number(caseline::word(line, 2)) else {
-        return answer::malformed(out);
-    };
-    match tuppenceowl::field_of(lent::part(table, 0, n), k) {
-        tuppenceowl::Found::Field(f) => answer::field(out, f),
-        tuppenceowl::Found::NoField => answer::nothing(out),
-        tuppenceowl::Found::Refused(r) => answer::refused(out, r),
-    }
-}
-
 fn asked(line: &[u8], cat: &[u8], layout: &[u8], table: &mut Table, out: &mut [u8]) -> usize {
-    let word = caseline::word(line, 0);
-    if check::same(word, b"size") {
-        return ask_size(line, cat, layout, out);
+    let of_layout = ask_layout::asked(line, cat, layout, table, out);
+    if of_layout != 0 {
+        return of_layout;
     }
-    if check::same(word, b"window") {
-        return ask_window(line, table, out);
+    let of_hash = ask_hash::asked(line, cat, layout, table, out);
+    if of_hash != 0 {
+        return of_hash;
     }
-    if check::same(word, b"field") {
-        return ask_field(line, table, out);
+    let of_verdict = ask_verdict::asked(line, cat, layout, table, out);
+    if of_verdict != 0 {
+        return of_verdict;
     }
-    hashes::asked(line, cat, layout, table, out)
+    answer::malformed(out)
 }
 
 // The answer to a line, put into out: how many bytes it has.

@@ -1,5 +1,5 @@
 // An answer is put into a small buffer: each function tells how many bytes it has.
-use caseline::put;
+use crate::put;
 use limits::refusal;
 
 pub fn fine(out: &mut [u8]) -> usize {

@@ -1,11 +1,11 @@
 // The words that ask for sums and hashes.
-use crate::answer;
-use crate::comparing;
-use crate::kept::Table;
 use caseline::Parsed;
+use caseline::answer;
 use tuppenceowl::hashing;
 use tuppenceowl::hashing::Booted;
 use tuppenceowl::hashing::Summed;
+
+pub type Table = [u8; 32768];
 
 fn ask_sum(line: &[u8], table: &mut Table, out: &mut [u8]) -> usize {
     if caseline::words(line) != 2 {
@@ -63,7 +63,7 @@ fn ask_boot(line: &[u8], cat: &[u8], layout: &[u8], out: &mut [u8]) -> usize {
     }
 }
 
-// The answer to a line with one of these words, or with one of those after them.
+// The answer to a line with one of these words, put into out; nothing for another word.
 pub fn asked(line: &[u8], cat: &[u8], layout: &[u8], table: &mut Table, out: &mut [u8]) -> usize {
     let word = caseline::word(line, 0);
     if check::same(word, b"sum") {
@@ -78,5 +78,5 @@ pub fn asked(line: &[u8], cat: &[u8], layout: &[u8], table: &mut Table, out: &mu
     if check::same(word, b"boot") {
         return ask_boot(line, cat, layout, out);
     }
-    comparing::asked(line, cat, layout, table, out)
+    0
 }

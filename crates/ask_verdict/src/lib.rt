@@ -1,11 +1,12 @@
 // The words that ask for verdicts and fields. A compiled layout stands in the line that asks for a verdict.
-use crate::answer;
-use crate::kept::Table;
 use caseline::Parsed;
+use caseline::answer;
 use compare::answer::Verdict;
 use tuppenceowl::Found;
 use tuppenceowl::comparing;
 use tuppenceowl::comparing::Judged;
+
+pub type Table = [u8; 32768];
 
 // A number of two bytes.
 fn short(text: &[u8]) -> Parsed {
@@ -113,7 +114,7 @@ fn ask_by_name(line: &[u8], cat: &[u8], layout: &[u8], table: &mut Table, out: &
     )
 }
 
-// The answer to a line with one of these words; any other line is malformed.
+// The answer to a line with one of these words, put into out; nothing for another word.
 pub fn asked(line: &[u8], cat: &[u8], layout: &[u8], table: &mut Table, out: &mut [u8]) -> usize {
     let word = caseline::word(line, 0);
     if check::same(word, b"verdict") {
@@ -128,5 +129,5 @@ pub fn asked(line: &[u8], cat: &[u8], layout: &[u8], table: &mut Table, out: &mu
     if check::same(word, b"by_name") {
         return ask_by_name(line, cat, layout, table, out);
     }
-    answer::malformed(out)
+    0
 }
