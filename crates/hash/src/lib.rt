@@ -7,7 +7,8 @@ ghost use Rattle.crc64.specs.Sum.{byteTable, bytesStep};
 ghost use Rattle.field.specs.Field.{fieldsOf};
 ghost use Rattle.hash.specs.Walk.{fieldBytes, namesStruct, walkField, walkTable};
 ghost use Rattle.hash.specs.Hash.{hashOf};
-ghost use Rattle.hash.specs.Parts.{visitOf, near, told, rowStep, FewFields};
+ghost use Rattle.hash.specs.Parts.{visitOf, near, told, rowStep};
+ghost use Rattle.layout.specs.Layout.{FewFields};
 use crc64::Crc64;
 use crc64::bytewise;
 use field::FieldDef;
@@ -42,9 +43,7 @@ fn field_sum(t: &[u64; 256], start: u64, f: FieldDef) -> u64
 fn names_struct(cat: &[u8], l: &[u8], f: FieldDef) -> bool
     ensures { λ r. ⌜ r ≡ namesStruct (now (cat .entry)) (now (l .entry)) f ⌝ }
 {
-    let class = catalogue::class_of(cat, f.type_id);
-    let structs = block::count_of(Holder::Struct, l);
-    (class == catalogue::STRUCT) & (lent::wide16(f.def_index) < structs)
+    field::is_struct(cat, f) & block::has_struct(l, f)
 }
 
 // A struct's size, which goes in before its fields: two bytes.

@@ -1,11 +1,12 @@
 -- Laws of reads. Assumes nothing.
-use mathlib.Core.Path.{_≡_, refl, sym}
+use mathlib.Core.Path.{_≡_, refl, sym, ap, _∙_}
 use mathlib.Core.Bool.{Bool, true, false, cond}
 use mathlib.Core.List.{List, [], _++_}
 use Prim.Native.Nat.{ℕ, zero, suc, _+_, _-_, _*_, _/_, _%_, _^_, _≤_, _<_}
 use native.Mathlib.Nat.{mul-assoc, pow-succ'}
 use native.Mathlib.Omega.{arith}
-use lib.ListN.{length, take, drop, length-take}
+use lib.ListN.{length, take, drop, length-take, length-drop, drop-of-length-le}
+use lib.Seq.{take-all}
 use lib.Dec.{leb}
 use borrow.Author.Tests.{le-leb, lt-leb, leb-true, leb-false}
 use Rattle.lent.specs.Bytes.{byteAt, numberAt, bytesOf, window, hasWindow, partOf}
@@ -63,3 +64,19 @@ part-length s at n = go (hasWindow s at n) where
   go : (p : Bool) → length (cond p (window s at n) []) ≤ n
   go true = omega (arith, length-take n (drop at s))
   go false = omega arith
+
+-- a window is the part where it lies inside, what there is of it where it passes the end, and nothing past the end
+pub window-in : (s : List ℕ) (at n : ℕ) → hasWindow s at n ≡ true → partOf s at n ≡ window s at n
+unfolding partOf
+window-in s at n e = rw e
+
+pub window-cut : (s : List ℕ) (at n : ℕ) → length s < at + n → window s at (length s - at) ≡ window s at n
+window-cut s at n h =
+    let z = length-drop at s in
+    take-all (length s - at) (drop at s) (omega arith) ∙ sym (take-all n (drop at s) (omega arith))
+
+pub window-past : (s : List ℕ) (at n : ℕ) → length s ≤ at → [] ≡ window s at n
+window-past s at n h = go n (drop at s) (drop-of-length-le s h) where
+  go : (m : ℕ) (t : List ℕ) → t ≡ [] → [] ≡ take m t
+  go zero t e = refl
+  go (suc m) t e = rw e
