@@ -1,6 +1,8 @@
 //! What each word asks: a function for each takes the words after it and answers, or answers nothing where they are malformed.
 use crate::layout::{wire, RecordLayout, StreamLayout};
 
+mod comparing;
+
 /// What earlier lines stated.
 pub struct Kept {
     layout: StreamLayout,
@@ -32,6 +34,10 @@ const WORDS: &[(&str, usize, Ask)] = &[
     ("hash", 1, hash),
     ("sum", 1, sum),
     ("window", 3, window),
+    ("verdict", 2, comparing::verdict),
+    ("verdict_of", 2, comparing::verdict_of),
+    ("by_id", 2, comparing::by_id),
+    ("by_name", 2, comparing::by_name),
 ];
 
 fn asked(words: &[&str]) -> Option<Ask> {

@@ -3,10 +3,12 @@ pub mod answer;
 
 ghost use mathlib.Core.Path.{_≡_};
 ghost use Prim.Native.Nat.{_+_, _*_, _<_, _≤_};
+ghost use lib.Dec.{eqb};
 ghost use lib.ListN.{length};
 ghost use Rattle.field.specs.Field.{fieldAt};
 ghost use Rattle.layout.specs.Layout.{recordAt, structAt, FewFields};
 ghost use Rattle.compare.specs.Compare.{eqExceptDefIndex, structEq, namedEq, fieldEq, baseCompatible, verdictOf};
+ghost use Rattle.compare.specs.Parts.{Skips};
 use crate::answer::Verdict;
 use field::FieldDef;
 use layout::block;
@@ -95,6 +97,38 @@ fn row_eq(cat: &[u8], s: &[u8], haves: &[u8], at: usize, c: &[u8], want: FieldDe
     field_eq(cat, s, field::field_in(haves, at), c, want)
 }
 
+fn is_id(t: &[u8], at: usize, id: u16) -> bool
+    requires { ⌜ at + 2 ≤ length (now t) ⌝ }
+    ensures { λ r. ⌜ r ≡ eqb (fieldAt (now (t .entry)) at .«field_id») id ⌝ }
+{
+    lent::u16_in(t, at) == id
+}
+
+// How many fields of other ids stand in front, but for the last few: four in a turn.
+fn skipped(t: &[u8], id: u16) -> usize
+    ensures { λ r. ⌜ Skips (now (t .entry)) id r ⌝ }
+{
+    let n = t.len() / field::SIZE;
+    let mut k = 0;
+    while k + 4 <= n {
+        let at = field::SIZE * k;
+        if is_id(t, at, id) {
+            return k;
+        }
+        if is_id(t, at + 16, id) {
+            return k + 1;
+        }
+        if is_id(t, at + 32, id) {
+            return k + 2;
+        }
+        if is_id(t, at + 48, id) {
+            return k + 3;
+        }
+        k += 4;
+    }
+    k
+}
+
 // Left by label from the inner scan as soon as a field has its equal.
 fn is_base_compatible(cat: &[u8], s: &[u8], h: usize, c: &[u8], g: usize) -> bool
     requires { ⌜ FewFields (now s) × FewFields (now c) × (h < 4000000000) × (g < 4000000000) ⌝ }
@@ -114,8 +148,9 @@ fn is_base_compatible(cat: &[u8], s: &[u8], h: usize, c: &[u8], g: usize) -> boo
         if field::is_padding(cat, want) {
             continue 'next;
         }
-        let mut from = 0;
-        let mut rest = haves.len() / field::SIZE;
+        let front = skipped(haves, want.field_id);
+        let mut from = field::SIZE * front;
+        let mut rest = haves.len() / field::SIZE - front;
         while rest != 0 {
             if row_eq(cat, s, haves, from, c, want) {
                 continue 'next;

@@ -2,9 +2,9 @@
 use Prim.Native.Nat.{_*_, _+_, _≤_}
 use borrow.Author.Needs.{needs}
 use lib.ListN.{length}
-use mathlib.Core.Path.{_∙_, _≡_, refl, sym}
+use mathlib.Core.Path.{_∙_, _≡_, sym}
 use native.Mathlib.Omega.{arith}
-use Rattle.compare.proofs.Equal.{base-larger, base-smaller, met-found, met-lacks, met-padding}
+use Rattle.compare.proofs.Equal.{base-larger, base-smaller, ids-differ, met-found, met-lacks, met-padding}
 use Rattle.compare.specs.Compare.{baseCompatible, fieldEq, met}
 use Rattle.field.specs.Field.{fieldAt, fieldsOf}
 use Rattle.layout.specs.Layout.{recordAt}
@@ -14,12 +14,12 @@ use Rattle.compare.proofs.is_base_compatible.Statement.{statement}
 use Rattle.compare.proofs.is_base_compatible.Tie as tie
 
 abbrev Inv-loop : tie.InvT-loop
-Inv-loop cat s h c g haves wants at left want from₀ rest₀ from rest =
+Inv-loop cat s h c g haves wants at left want front from₀ rest₀ from rest =
     (from + 16 * rest ≤ length haves)
     × (some (λ have. fieldEq cat s have c want) (gather (fieldAt haves) 16 from rest) ≡ some (λ have. fieldEq cat s have c want) (fieldsOf haves))
 
 abbrev μ-loop : tie.MeasureT-loop
-μ-loop cat s h c g haves wants at left want from₀ rest₀ from rest = rest
+μ-loop cat s h c g haves wants at left want front from₀ rest₀ from rest = rest
 
 abbrev Inv-next : tie.InvT-next
 Inv-next cat s h c g haves wants at₀ left₀ at left =
@@ -72,11 +72,20 @@ next-again c = (
       (met-padding (c .before .before .before .before .before .before .before .before .before .before .before .before .before .args .cat .now) (c .before .before .before .before .before .before .before .before .before .before .before .before .before .args .s .now) (fieldsOf (c .before .before .before .before .before .before .table-at .result .now)) (c .before .before .before .before .before .before .before .before .before .before .before .before .before .args .c .now) (fieldAt (c .before .before .before .before .before .table-at2 .result .now) (c .before .before .before .before .next .at)) _ (c .before .before .field-in .ensures) (sym (c .before .is-padding .ensures) ∙ c .if2 .taken)),
 )
 
+skipped-requires : tie.Need-skipped-requires Inv-loop μ-loop Inv-next μ-next
+skipped-requires c κs = search needs
+
+mul-from : tie.Need-mul-from Inv-loop μ-loop Inv-next μ-next
+mul-from c = omega (arith, c .skipped .ensures .within)
+
+sub-rest : tie.Need-sub-rest Inv-loop μ-loop Inv-next μ-next
+sub-rest c = omega (arith, c .skipped .ensures .within)
+
 loop-holds : tie.Need-loop-holds Inv-loop μ-loop Inv-next μ-next
-loop-holds c = (omega arith, refl)
+loop-holds c = (omega (arith, c .skipped .ensures .within), c .skipped .ensures .rest _ (λ f h. sym (ids-differ (c .before .before .before .before .before .before .before .before .before .before .before .before .before .before .args .cat .now) (c .before .before .before .before .before .before .before .before .before .before .before .before .before .before .args .s .now) f (c .before .before .before .before .before .before .before .before .before .before .before .before .before .before .args .c .now) (c .before .before .before .field-in .result) h)))
 
 row-eq-requires : tie.Need-row-eq-requires Inv-loop μ-loop Inv-next μ-next
-row-eq-requires c κs = (c .before .before .before .before .before .before .before .before .before .before .before .before .before .before .before .pre .0, c .before .before .before .before .before .before .before .before .before .before .before .before .before .before .before .pre .1, omega arith)
+row-eq-requires c κs = (c .before .before .before .before .before .before .before .before .before .before .before .before .before .before .before .before .pre .0, c .before .before .before .before .before .before .before .before .before .before .before .before .before .before .before .before .pre .1, omega arith)
 
 next-less-2 : tie.Need-next-less-2 Inv-loop μ-loop Inv-next μ-next
 next-less-2 c = omega arith
@@ -84,16 +93,16 @@ next-less-2 c = omega arith
 next-again-2 : tie.Need-next-again-2 Inv-loop μ-loop Inv-next μ-next
 next-again-2 c = (
   omega arith,
-  goes (fieldAt (c .before .before .before .before .before .before .before .before .before .table-at2 .result .now)) 16 (c .before .before .before .before .before .before .before .before .next .at) (c .before .before .before .before .before .before .before .before .next .left) (met (c .before .before .before .before .before .before .before .before .before .before .before .before .before .before .before .before .before .args .cat .now) (c .before .before .before .before .before .before .before .before .before .before .before .before .before .before .before .before .before .args .s .now) (fieldsOf (c .before .before .before .before .before .before .before .before .before .before .table-at .result .now)) (c .before .before .before .before .before .before .before .before .before .before .before .before .before .before .before .before .before .args .c .now)) _ (c .before .before .before .before .before .before .before .before .next .inv .1) (omega arith)
-      (met-found (c .before .before .before .before .before .before .before .before .before .before .before .before .before .before .before .before .before .args .cat .now) (c .before .before .before .before .before .before .before .before .before .before .before .before .before .before .before .before .before .args .s .now) (fieldsOf (c .before .before .before .before .before .before .before .before .before .before .table-at .result .now)) (c .before .before .before .before .before .before .before .before .before .before .before .before .before .before .before .before .before .args .c .now) (fieldAt (c .before .before .before .before .before .before .before .before .before .table-at2 .result .now) (c .before .before .before .before .before .before .before .before .next .at)) (c .before .before .before .before .before .before .field-in .result) (c .before .before .before .before .before .before .field-in .ensures)
-      (finds (fieldAt (c .before .before .before .before .before .before .before .before .before .before .table-at .result .now)) 16 (c .before .before .before .loop .from) (c .before .before .before .loop .rest) (λ have. fieldEq (c .before .before .before .before .before .before .before .before .before .before .before .before .before .before .before .before .before .args .cat .now) (c .before .before .before .before .before .before .before .before .before .before .before .before .before .before .before .before .before .args .s .now) have (c .before .before .before .before .before .before .before .before .before .before .before .before .before .before .before .before .before .args .c .now) (c .before .before .before .before .before .before .field-in .result)) _ (c .before .before .before .loop .inv .1) (omega arith) (sym (c .before .row-eq .ensures) ∙ c .if3 .taken))),
+  goes (fieldAt (c .before .before .before .before .before .before .before .before .before .before .table-at2 .result .now)) 16 (c .before .before .before .before .before .before .before .before .before .next .at) (c .before .before .before .before .before .before .before .before .before .next .left) (met (c .before .before .before .before .before .before .before .before .before .before .before .before .before .before .before .before .before .before .args .cat .now) (c .before .before .before .before .before .before .before .before .before .before .before .before .before .before .before .before .before .before .args .s .now) (fieldsOf (c .before .before .before .before .before .before .before .before .before .before .before .table-at .result .now)) (c .before .before .before .before .before .before .before .before .before .before .before .before .before .before .before .before .before .before .args .c .now)) _ (c .before .before .before .before .before .before .before .before .before .next .inv .1) (omega arith)
+      (met-found (c .before .before .before .before .before .before .before .before .before .before .before .before .before .before .before .before .before .before .args .cat .now) (c .before .before .before .before .before .before .before .before .before .before .before .before .before .before .before .before .before .before .args .s .now) (fieldsOf (c .before .before .before .before .before .before .before .before .before .before .before .table-at .result .now)) (c .before .before .before .before .before .before .before .before .before .before .before .before .before .before .before .before .before .before .args .c .now) (fieldAt (c .before .before .before .before .before .before .before .before .before .before .table-at2 .result .now) (c .before .before .before .before .before .before .before .before .before .next .at)) (c .before .before .before .before .before .before .before .field-in .result) (c .before .before .before .before .before .before .before .field-in .ensures)
+      (finds (fieldAt (c .before .before .before .before .before .before .before .before .before .before .before .table-at .result .now)) 16 (c .before .before .before .loop .from) (c .before .before .before .loop .rest) (λ have. fieldEq (c .before .before .before .before .before .before .before .before .before .before .before .before .before .before .before .before .before .before .args .cat .now) (c .before .before .before .before .before .before .before .before .before .before .before .before .before .before .before .before .before .before .args .s .now) have (c .before .before .before .before .before .before .before .before .before .before .before .before .before .before .before .before .before .before .args .c .now) (c .before .before .before .before .before .before .before .field-in .result)) _ (c .before .before .before .loop .inv .1) (omega arith) (sym (c .before .row-eq .ensures) ∙ c .if3 .taken))),
 )
 
 add-from : tie.Need-add-from Inv-loop μ-loop Inv-next μ-next
 add-from c = omega arith
 
-sub-rest : tie.Need-sub-rest Inv-loop μ-loop Inv-next μ-next
-sub-rest c = omega arith
+sub-rest-2 : tie.Need-sub-rest-2 Inv-loop μ-loop Inv-next μ-next
+sub-rest-2 c = omega arith
 
 loop-less : tie.Need-loop-less Inv-loop μ-loop Inv-next μ-next
 loop-less c = omega arith
@@ -101,14 +110,14 @@ loop-less c = omega arith
 loop-again : tie.Need-loop-again Inv-loop μ-loop Inv-next μ-next
 loop-again c = (
   omega arith,
-  seeks (fieldAt (c .before .before .before .before .before .before .before .before .before .before .table-at .result .now)) 16 (c .before .before .before .loop .from) (c .before .before .before .loop .rest) (λ have. fieldEq (c .before .before .before .before .before .before .before .before .before .before .before .before .before .before .before .before .before .args .cat .now) (c .before .before .before .before .before .before .before .before .before .before .before .before .before .before .before .before .before .args .s .now) have (c .before .before .before .before .before .before .before .before .before .before .before .before .before .before .before .before .before .args .c .now) (c .before .before .before .before .before .before .field-in .result)) _ (c .before .before .before .loop .inv .1) (omega arith) (sym (c .before .row-eq .ensures) ∙ c .if3 .left),
+  seeks (fieldAt (c .before .before .before .before .before .before .before .before .before .before .before .table-at .result .now)) 16 (c .before .before .before .loop .from) (c .before .before .before .loop .rest) (λ have. fieldEq (c .before .before .before .before .before .before .before .before .before .before .before .before .before .before .before .before .before .before .args .cat .now) (c .before .before .before .before .before .before .before .before .before .before .before .before .before .before .before .before .before .before .args .s .now) have (c .before .before .before .before .before .before .before .before .before .before .before .before .before .before .before .before .before .before .args .c .now) (c .before .before .before .before .before .before .before .field-in .result)) _ (c .before .before .before .loop .inv .1) (omega arith) (sym (c .before .row-eq .ensures) ∙ c .if3 .left),
 )
 
 returns-2 : tie.Need-returns-2 Inv-loop μ-loop Inv-next μ-next
 returns-2 c =
-    stops (fieldAt (c .before .before .before .before .before .before .before .table-at2 .result .now)) 16 (c .before .before .before .before .before .before .next .at) (c .before .before .before .before .before .before .next .left) (met (c .before .before .before .before .before .before .before .before .before .before .before .before .before .before .before .args .cat .now) (c .before .before .before .before .before .before .before .before .before .before .before .before .before .before .before .args .s .now) (fieldsOf (c .before .before .before .before .before .before .before .before .table-at .result .now)) (c .before .before .before .before .before .before .before .before .before .before .before .before .before .before .before .args .c .now)) _ (c .before .before .before .before .before .before .next .inv .1) (omega arith)
-    (met-lacks (c .before .before .before .before .before .before .before .before .before .before .before .before .before .before .before .args .cat .now) (c .before .before .before .before .before .before .before .before .before .before .before .before .before .before .before .args .s .now) (fieldsOf (c .before .before .before .before .before .before .before .before .table-at .result .now)) (c .before .before .before .before .before .before .before .before .before .before .before .before .before .before .before .args .c .now) (fieldAt (c .before .before .before .before .before .before .before .table-at2 .result .now) (c .before .before .before .before .before .before .next .at)) (c .before .before .before .before .field-in .result) (c .before .before .before .before .field-in .ensures) (sym (c .before .before .before .is-padding .ensures) ∙ c .before .before .if2 .left)
-    (lacks (fieldAt (c .before .before .before .before .before .before .before .before .table-at .result .now)) 16 (c .before .loop .from) (c .before .loop .rest) (λ have. fieldEq (c .before .before .before .before .before .before .before .before .before .before .before .before .before .before .before .args .cat .now) (c .before .before .before .before .before .before .before .before .before .before .before .before .before .before .before .args .s .now) have (c .before .before .before .before .before .before .before .before .before .before .before .before .before .before .before .args .c .now) (c .before .before .before .before .field-in .result)) _ (c .before .loop .inv .1) (omega arith)))
+    stops (fieldAt (c .before .before .before .before .before .before .before .before .table-at2 .result .now)) 16 (c .before .before .before .before .before .before .before .next .at) (c .before .before .before .before .before .before .before .next .left) (met (c .before .before .before .before .before .before .before .before .before .before .before .before .before .before .before .before .args .cat .now) (c .before .before .before .before .before .before .before .before .before .before .before .before .before .before .before .before .args .s .now) (fieldsOf (c .before .before .before .before .before .before .before .before .before .table-at .result .now)) (c .before .before .before .before .before .before .before .before .before .before .before .before .before .before .before .before .args .c .now)) _ (c .before .before .before .before .before .before .before .next .inv .1) (omega arith)
+    (met-lacks (c .before .before .before .before .before .before .before .before .before .before .before .before .before .before .before .before .args .cat .now) (c .before .before .before .before .before .before .before .before .before .before .before .before .before .before .before .before .args .s .now) (fieldsOf (c .before .before .before .before .before .before .before .before .before .table-at .result .now)) (c .before .before .before .before .before .before .before .before .before .before .before .before .before .before .before .before .args .c .now) (fieldAt (c .before .before .before .before .before .before .before .before .table-at2 .result .now) (c .before .before .before .before .before .before .before .next .at)) (c .before .before .before .before .before .field-in .result) (c .before .before .before .before .before .field-in .ensures) (sym (c .before .before .before .before .is-padding .ensures) ∙ c .before .before .before .if2 .left)
+    (lacks (fieldAt (c .before .before .before .before .before .before .before .before .before .table-at .result .now)) 16 (c .before .loop .from) (c .before .loop .rest) (λ have. fieldEq (c .before .before .before .before .before .before .before .before .before .before .before .before .before .before .before .before .args .cat .now) (c .before .before .before .before .before .before .before .before .before .before .before .before .before .before .before .before .args .s .now) have (c .before .before .before .before .before .before .before .before .before .before .before .before .before .before .before .before .args .c .now) (c .before .before .before .before .before .field-in .result)) _ (c .before .loop .inv .1) (omega arith)))
 
 returns-3 : tie.Need-returns-3 Inv-loop μ-loop Inv-next μ-next
 returns-3 c = ends (fieldAt (c .before .before .table-at2 .result .now)) 16 (c .before .next .at) (c .before .next .left) (met (c .before .before .before .before .before .before .before .before .before .before .args .cat .now) (c .before .before .before .before .before .before .before .before .before .before .args .s .now) (fieldsOf (c .before .before .before .table-at .result .now)) (c .before .before .before .before .before .before .before .before .before .before .args .c .now)) _ (c .before .next .inv .1) (omega arith)
@@ -133,12 +142,15 @@ is-base-compatible-spec =
     is-padding-requires
     next-less
     next-again
+    skipped-requires
+    mul-from
+    sub-rest
     loop-holds
     row-eq-requires
     next-less-2
     next-again-2
     add-from
-    sub-rest
+    sub-rest-2
     loop-less
     loop-again
     returns-2
