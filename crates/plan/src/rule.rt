@@ -1,9 +1,10 @@
 // op_for of dbn's upgrade.rs: what a source field brings to a target field of its id.
 ghost use mathlib.Core.Path.{_≡_};
 ghost use Prim.Native.Nat.{_<_};
+ghost use Rattle.lent.specs.Scan.{first};
 ghost use Rattle.field.specs.Field.{fieldsOf};
 ghost use Rattle.step.specs.Step.{copy, int};
-ghost use Rattle.plan.specs.Rule.{counts, sameScale, sameArrayness, sameKind, apart, isString, isSigned, sameSign, stepFor, isMarked, wantAt, stepOf};
+ghost use Rattle.plan.specs.Rule.{counts, sameScale, sameArrayness, sameKind, apart, isString, isSigned, sameSign, stepFor, isMarked, wantAt, sameId, stepOf};
 use field::FieldDef;
 use step::Op;
 use step::Step;
@@ -114,4 +115,39 @@ pub fn op_for(cat: &[u8], have: FieldDef, want: FieldDef, marked: bool) -> Carri
         return int(cat, have, want, marked);
     }
     Carried::Default
+}
+
+fn from_first(cat: &[u8], src: &[u8], want: FieldDef, marked: bool) -> Carried
+    ensures { λ r. ⌜ r ≡ first (sameId want) (λ have. stepFor (now (cat .entry)) have want marked) Carried.Default (fieldsOf (now (src .entry))) ⌝ }
+{
+    let mut at = 0;
+    let mut left = src.len() / field::SIZE;
+    while left != 0 {
+        if lent::u16_in(src, at) == want.field_id {
+            return op_for(cat, field::field_in(src, at), want, marked);
+        }
+        at += field::SIZE;
+        left -= 1;
+    }
+    Carried::Default
+}
+
+// Marks are a byte a field; there is none past the end.
+pub fn is_marked(cat: &[u8], marks: &[u8], k: usize, f: FieldDef) -> bool
+    ensures { λ r. ⌜ r ≡ isMarked (now (cat .entry)) (now (marks .entry)) k f ⌝ }
+{
+    !(lent::byte_at(marks, k) == 0) & field::is_plain_integer(cat, f)
+}
+
+// Of the target field at a place of its table.
+pub fn step_of(cat: &[u8], src: &[u8], dst: &[u8], marks: &[u8], at: usize) -> Carried
+    requires { ⌜ at < 65536 ⌝ }
+    ensures { λ r. ⌜ r ≡ stepOf (now (cat .entry)) (fieldsOf (now (src .entry))) (wantAt (now (cat .entry)) (now (marks .entry)) (now (dst .entry)) at) ⌝ }
+{
+    let want = field::field_at(dst, at);
+    if !counts(cat, want) {
+        return Carried::Default;
+    }
+    let marked = is_marked(cat, marks, at / field::SIZE, want);
+    from_first(cat, src, want, marked)
 }
