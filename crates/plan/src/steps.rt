@@ -118,3 +118,68 @@ fn join(a: Step, b: Step, bases: Bases) -> Joining
         },
     }
 }
+
+// Of the first n places in an order, each step joined onto the last where it joins.
+fn in_order(
+    cat: &[u8],
+    src: &[u8],
+    dst: &[u8],
+    marks: &[u8],
+    order: &[u16],
+    n: usize,
+    bases: Bases,
+) -> Steps
+    requires { ⌜ (n ≤ 128) × (n ≤ length (now order)) × (bases .source < 65536) ⌝ }
+    ensures { λ r. ⌜ (take (r .count) (r .steps) ≡ joinAll (bases .source) (bases .target) (stepsOf (now (cat .entry)) (fieldsOf (now (src .entry))) (map (wantAt (now (cat .entry)) (now (marks .entry)) (now (dst .entry))) (take n (now (order .entry)))))) × (r .count ≤ n) ⌝ }
+{
+    let none = Step {
+        op: Op::Copy {
+            src_offset: 0,
+            dst_offset: 0,
+            size: 0,
+        },
+    };
+    let mut steps = [none; limits::MAX_STEPS];
+    let mut count = 0;
+    let mut k = 0;
+    'next: while k < n {
+        let at = lent::wide16(order[k]);
+        k += 1;
+        match rule::step_of(cat, src, dst, marks, at) {
+            Carried::Default => continue 'next,
+            Carried::By(step) => {
+                if count == 0 {
+                    steps[0] = step;
+                    count = 1;
+                    continue 'next;
+                }
+                let last = steps[count - 1];
+                match join(last, step, bases) {
+                    Joining::One(both) => {
+                        steps[count - 1] = both;
+                        continue 'next;
+                    }
+                    Joining::Two => {
+                        steps[count] = step;
+                        count += 1;
+                    }
+                }
+            }
+        }
+    }
+    Steps {
+        count: count,
+        steps: steps,
+    }
+}
+
+// The steps from a source's table to a target's, under its marks.
+pub fn planned(cat: &[u8], src: &[u8], dst: &[u8], marks: &[u8], bases: Bases) -> Steps
+    requires { ⌜ (length (now dst) ≤ 2048) × (bases .source < 65536) ⌝ }
+    ensures { λ r. ⌜ (take (r .count) (r .steps) ≡ plannedSteps (now (cat .entry)) (fieldsOf (now (src .entry))) (wants (now (cat .entry)) (now (marks .entry)) (now (dst .entry))) (bases .source) (bases .target)) × (r .count ≤ 128) ⌝ }
+{
+    let n = dst.len() / field::SIZE;
+    let mut order = [0u16; limits::MAX_FIELDS];
+    order::by_offset(dst, n, &mut order);
+    in_order(cat, src, dst, marks, &order, n, bases)
+}
