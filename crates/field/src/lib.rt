@@ -99,14 +99,14 @@ pub fn end_of(f: FieldDef) -> usize
     lent::wide16(f.offset) + lent::wide16(f.size)
 }
 
-fn is_integer(cat: &[u8], f: FieldDef) -> bool
+pub fn is_integer(cat: &[u8], f: FieldDef) -> bool
     ensures { λ r. ⌜ r ≡ isInteger (now (cat .entry)) f ⌝ }
 {
     let class = catalogue::class_of(cat, f.type_id);
     (class == catalogue::UNSIGNED) | (class == catalogue::SIGNED)
 }
 
-fn is_array(cat: &[u8], f: FieldDef) -> bool
+pub fn is_array(cat: &[u8], f: FieldDef) -> bool
     ensures { λ r. ⌜ r ≡ isArray (now (cat .entry)) f ⌝ }
 {
     f.flags & catalogue::array_flag(cat) != 0
