@@ -36,7 +36,13 @@ op-for-requires c κs = search needs
 
 returns : tie.Need-returns Inv-loop μ-loop
 unfolding fieldAt
-returns c = c .op-for .ensures ∙ rw (c .before .field-in .ensures) (first-here (fieldAt (c .before .before .before .before .before .before .before .before .before .args .src .now)) 16 (c .before .before .before .before .before .before .loop .at) (c .before .before .before .before .before .before .loop .left) (sameId (c .before .before .before .before .before .before .before .before .before .args .want)) (λ have. stepFor (c .before .before .before .before .before .before .before .before .before .args .cat .now) have (c .before .before .before .before .before .before .before .before .before .args .want) (c .before .before .before .before .before .before .before .before .before .args .marked)) Default _ (c .before .before .before .before .before .before .loop .inv .1) (omega arith) (eq-eqb _ _ (sym (c .before .before .before .before .u16-in .ensures) ∙ c .before .before .if1 .taken)))
+returns c =
+    let a = (c .before .before .before .before .before .before .before .before .before .args) in
+    let l = (c .before .before .before .before .before .before .loop) in
+    c .op-for .ensures
+    ∙ rw (c .before .field-in .ensures)
+        (first-here (fieldAt (a .src .now)) 16 (l .at) (l .left) (sameId (a .want)) (λ have. stepFor (a .cat .now) have (a .want) (a .marked)) Default _ (l .inv .1)
+        (omega arith) (eq-eqb _ _ (sym (c .before .before .before .before .u16-in .ensures) ∙ c .before .before .if1 .taken)))
 
 add-at : tie.Need-add-at Inv-loop μ-loop
 add-at c = omega arith
@@ -49,10 +55,20 @@ loop-less c = omega arith
 
 loop-again : tie.Need-loop-again Inv-loop μ-loop
 unfolding fieldAt
-loop-again c = (omega arith, first-later (fieldAt (c .before .before .before .before .before .before .before .args .src .now)) 16 (c .before .before .before .before .loop .at) (c .before .before .before .before .loop .left) (sameId (c .before .before .before .before .before .before .before .args .want)) (λ have. stepFor (c .before .before .before .before .before .before .before .args .cat .now) have (c .before .before .before .before .before .before .before .args .want) (c .before .before .before .before .before .before .before .args .marked)) Default _ (c .before .before .before .before .loop .inv .1) (omega arith) (ne-eqb _ _ (λ e. c .if1 .left (c .before .before .u16-in .ensures ∙ e))))
+loop-again c =
+    let a = (c .before .before .before .before .before .before .before .args) in
+    let l = (c .before .before .before .before .loop) in (
+      omega arith,
+      first-later (fieldAt (a .src .now)) 16 (l .at) (l .left) (sameId (a .want)) (λ have. stepFor (a .cat .now) have (a .want) (a .marked)) Default _ (l .inv .1)
+          (omega arith) (ne-eqb _ _ (λ e. c .if1 .left (c .before .before .u16-in .ensures ∙ e))),
+    )
 
 returns-2 : tie.Need-returns-2 Inv-loop μ-loop
-returns-2 c = first-nowhere (fieldAt (c .before .before .before .before .args .src .now)) 16 (c .before .loop .at) (c .before .loop .left) (sameId (c .before .before .before .before .args .want)) (λ have. stepFor (c .before .before .before .before .args .cat .now) have (c .before .before .before .before .args .want) (c .before .before .before .before .args .marked)) Default _ (c .before .loop .inv .1) (omega arith)
+returns-2 c =
+    let a = (c .before .before .before .before .args) in
+    let l = (c .before .loop) in
+    first-nowhere (fieldAt (a .src .now)) 16 (l .at) (l .left) (sameId (a .want)) (λ have. stepFor (a .cat .now) have (a .want) (a .marked)) Default _ (l .inv .1)
+    (omega arith)
 
 pub from-first-spec : {M : Type 1} → statement M
 from-first-spec =

@@ -34,27 +34,16 @@ copy-requires-2 c κs = search needs
 returns-3 : tie.Need-returns-3
 unfolding stepFor
 returns-3 c =
-    c .copy2 .ensures
-    ∙ rw (
-      sym (c .before .before .before .before .before .before .before .before .before .before .same-kind .ensures) ∙ c .before .before .before .before .before .before .before .before .before .if1 .left,
-      sym (c .before .before .before .before .before .before .before .before .apart .ensures) ∙ c .before .before .before .before .before .before .before .if2 .left,
-      ← c .before .before .before .before .before .before .is-string .ensures,
-      ← c .before .before .before .before .before .is-string2 .ensures,
-      c .before .before .before .before .if3 .taken,
-      le-leb _ _ (c .before .if4 .taken),
-    )
+    let other = sym (c .before .before .before .before .before .before .before .before .before .before .same-kind .ensures) ∙ c .before .before .before .before .before .before .before .before .before .if1 .left in
+    let near = sym (c .before .before .before .before .before .before .before .before .apart .ensures) ∙ c .before .before .before .before .before .before .before .if2 .left in
+    c .copy2 .ensures ∙ rw (other, near, ← c .before .before .before .before .before .before .is-string .ensures, ← c .before .before .before .before .before .is-string2 .ensures, c .before .before .before .before .if3 .taken, le-leb _ _ (c .before .if4 .taken))
 
 returns-4 : tie.Need-returns-4
 unfolding stepFor
 returns-4 c =
-    rw (
-      sym (c .before .before .before .before .before .before .before .before .before .same-kind .ensures) ∙ c .before .before .before .before .before .before .before .before .if1 .left,
-      sym (c .before .before .before .before .before .before .before .apart .ensures) ∙ c .before .before .before .before .before .before .if2 .left,
-      ← c .before .before .before .before .before .is-string .ensures,
-      ← c .before .before .before .before .is-string2 .ensures,
-      c .before .before .before .if3 .taken,
-      lt-leb _ _ (c .if4 .left),
-    )
+    let other = sym (c .before .before .before .before .before .before .before .before .before .same-kind .ensures) ∙ c .before .before .before .before .before .before .before .before .if1 .left in
+    let near = sym (c .before .before .before .before .before .before .before .apart .ensures) ∙ c .before .before .before .before .before .before .if2 .left in
+    rw (other, near, ← c .before .before .before .before .before .is-string .ensures, ← c .before .before .before .before .is-string2 .ensures, c .before .before .before .if3 .taken, lt-leb _ _ (c .if4 .left))
 
 same-sign-requires : tie.Need-same-sign-requires
 same-sign-requires c κs = search needs
@@ -65,29 +54,16 @@ int-requires c κs = search needs
 returns-5 : tie.Need-returns-5
 unfolding stepFor
 returns-5 c =
-    c .int .ensures
-    ∙ rw (
-      sym (c .before .before .before .before .before .before .before .before .before .before .before .same-kind .ensures) ∙ c .before .before .before .before .before .before .before .before .before .before .if1 .left,
-      sym (c .before .before .before .before .before .before .before .before .before .apart .ensures) ∙ c .before .before .before .before .before .before .before .before .if2 .left,
-      ← c .before .before .before .before .before .before .before .is-string .ensures,
-      ← c .before .before .before .before .before .before .is-string2 .ensures,
-      c .before .before .before .before .before .if3 .left,
-      ← c .before .before .before .before .same-sign .ensures,
-      c .before .if5 .taken,
-    )
+    let other = sym (c .before .before .before .before .before .before .before .before .before .before .before .same-kind .ensures) ∙ c .before .before .before .before .before .before .before .before .before .before .if1 .left in
+    let near = sym (c .before .before .before .before .before .before .before .before .before .apart .ensures) ∙ c .before .before .before .before .before .before .before .before .if2 .left in
+    c .int .ensures ∙ rw (other, near, ← c .before .before .before .before .before .before .before .is-string .ensures, ← c .before .before .before .before .before .before .is-string2 .ensures, c .before .before .before .before .before .if3 .left, ← c .before .before .before .before .same-sign .ensures, c .before .if5 .taken)
 
 returns-6 : tie.Need-returns-6
 unfolding stepFor
 returns-6 c =
-    rw (
-      sym (c .before .before .before .before .before .before .before .before .before .before .same-kind .ensures) ∙ c .before .before .before .before .before .before .before .before .before .if1 .left,
-      sym (c .before .before .before .before .before .before .before .before .apart .ensures) ∙ c .before .before .before .before .before .before .before .if2 .left,
-      ← c .before .before .before .before .before .before .is-string .ensures,
-      ← c .before .before .before .before .before .is-string2 .ensures,
-      c .before .before .before .before .if3 .left,
-      ← c .before .before .before .same-sign .ensures,
-      c .if5 .left,
-    )
+    let other = sym (c .before .before .before .before .before .before .before .before .before .before .same-kind .ensures) ∙ c .before .before .before .before .before .before .before .before .before .if1 .left in
+    let near = sym (c .before .before .before .before .before .before .before .before .apart .ensures) ∙ c .before .before .before .before .before .before .before .if2 .left in
+    rw (other, near, ← c .before .before .before .before .before .before .is-string .ensures, ← c .before .before .before .before .before .is-string2 .ensures, c .before .before .before .before .if3 .left, ← c .before .before .before .same-sign .ensures, c .if5 .left)
 
 pub op-for-spec : {M : Type 1} → statement M
 op-for-spec =

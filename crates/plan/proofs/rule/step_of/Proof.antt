@@ -23,7 +23,9 @@ from-first-requires c κs = search needs
 
 returns-2 : tie.Need-returns-2
 unfolding stepOf
-returns-2 c = c .from-first .ensures ∙ rw (c .before .is-marked .ensures, c .before .before .before .before .field-at .ensures) (rw (← c .before .before .before .before .field-at .ensures, sym (c .before .before .before .counts .ensures) ∙ not-false _ (c .before .before .if1 .left)))
+returns-2 c =
+    let f = c .before .before .before .before .field-at .ensures in
+    c .from-first .ensures ∙ rw (c .before .is-marked .ensures, f) (rw (← f, sym (c .before .before .before .counts .ensures) ∙ not-false _ (c .before .before .if1 .left)))
 
 pub step-of-spec : {M : Type 1} → statement M
 step-of-spec =
