@@ -4,12 +4,14 @@ use crate::layout::{wire, RecordLayout, StreamLayout};
 /// What earlier lines stated.
 pub struct Kept {
     layout: StreamLayout,
+    building: crate::building::Building,
 }
 
 impl Default for Kept {
     fn default() -> Self {
         Self {
             layout: crate::block::layout(&[]),
+            building: Default::default(),
         }
     }
 }
@@ -32,6 +34,9 @@ const WORDS: &[(&str, usize, Ask)] = &[
     ("hash", 1, hash),
     ("sum", 1, sum),
     ("window", 3, window),
+    ("begin", 1, begin),
+    ("call", 1, call),
+    ("entry", 1, entry),
 ];
 
 fn asked(words: &[&str]) -> Option<Ask> {
@@ -108,4 +113,18 @@ fn sum(_kept: &mut Kept, words: &[&str]) -> Answer {
 fn window(_kept: &mut Kept, words: &[&str]) -> Answer {
     let (bytes, offset, size) = (hex(words[0])?, number(words[1])?, number(words[2])?);
     or_none(wire::window(&bytes, offset, size).map(|(start, end)| format!("{start} {end}")))
+}
+
+// ---- the field cursor
+
+fn begin(kept: &mut Kept, words: &[&str]) -> Answer {
+    Some(kept.building.begin(words[0]))
+}
+
+fn call(kept: &mut Kept, words: &[&str]) -> Answer {
+    kept.building.call(&kept.layout, &hex(words[0])?)
+}
+
+fn entry(kept: &mut Kept, words: &[&str]) -> Answer {
+    kept.building.entry(number(words[0])?)
 }
