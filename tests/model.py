@@ -1,5 +1,5 @@
 """The bytes of catalogues and layouts, and a model of the ground's rules: written from the rules and not from the code."""
-import struct
+import functools, struct
 
 OTHER, UNSIGNED, SIGNED, DECIMAL, STRING, STRUCT, PADDING = range(7)
 ARRAY, EXTENSION = 128, 64
@@ -72,6 +72,7 @@ def number(b, at, n):
     return sum((b[at + i] if at + i < len(b) else 0) << 8 * i for i in range(n))
 
 
+@functools.cache
 def valid(cat):
     if len(cat) != 262:
         return False

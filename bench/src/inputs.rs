@@ -91,3 +91,10 @@ pub fn reversed(n: u16) -> Vec<u8> {
 pub fn shuffled(n: u16) -> Vec<u8> {
     block(&disorder(n))
 }
+
+/// The same layout with another stored hash.
+pub fn other_hash(layout: &[u8]) -> Vec<u8> {
+    let mut other = layout.to_vec();
+    other[16] ^= 1;
+    other
+}

@@ -2,6 +2,7 @@
 mod inputs;
 mod measure;
 mod port;
+mod verdicts;
 
 use judge::block;
 use judge::layout::{wire, LayoutIndex, StreamLayout};
@@ -18,6 +19,7 @@ struct Inputs {
     hashed: Vec<(u16, Vec<u8>, StreamLayout)>,
     kibibyte: Vec<u8>,
     scaling: Vec<(u16, Vec<u8>)>,
+    pairs: Vec<verdicts::Pair>,
 }
 
 impl Inputs {
@@ -31,6 +33,7 @@ impl Inputs {
             hashed: [30, 128].map(hashed).into(),
             kibibyte: (0..1024u32).map(|i| (i * i / 7) as u8).collect(),
             scaling: [16, 32, 64, 128].map(|n| (n, inputs::in_order(n))).into(),
+            pairs: verdicts::pairs(),
         }
     }
 }
@@ -109,10 +112,12 @@ fn rust_sum(bytes: &[u8]) -> Call<'_> {
 
 // ---- rows: an entry for each
 
-/// How the row ends: nothing more, how much of the Rust's time the port may take, or how many fields share its time.
+/// How the row ends: nothing more, how much of the Rust's time the port may take, the same of what it takes beyond the row before, or how
+/// many fields share its time.
 enum Ends {
     Plain,
     Most(f64),
+    Beyond(f64),
     Fields(u16),
 }
 
@@ -195,22 +200,32 @@ fn rows(i: &Inputs) -> Vec<Row<'_>> {
         Ends::Plain,
     ));
     all.extend(i.hashed.iter().flat_map(|h| hash_rows(&i.catalogue, h)));
+    all.extend(i.pairs.iter().flat_map(|p| verdicts::rows(&i.catalogue, p)));
     all.extend(i.scaling.iter().map(|s| scaling_row(&i.catalogue, s)));
     all
 }
 
 // ---- the table
 
-fn remark(ends: &Ends, ours: f64, theirs: f64) -> String {
+fn met(most: f64, ours: f64, theirs: f64) -> String {
+    let met = if ours <= most * theirs {
+        "met"
+    } else {
+        "missed"
+    };
+    format!("target {most:.2}: {met}")
+}
+
+/// `before` is what the port takes in the row before.
+fn remark(ends: &Ends, before: f64, ours: f64, theirs: f64) -> String {
     match *ends {
         Ends::Plain => String::new(),
-        Ends::Most(most) => format!(
-            "target {most:.2}: {}",
-            if ours <= most * theirs {
-                "met"
-            } else {
-                "missed"
-            }
+        Ends::Most(most) => met(most, ours, theirs),
+        Ends::Beyond(most) => format!(
+            "{:.0} ns beyond the row above, {:.2} of the Rust; {}",
+            ours - before,
+            (ours - before) / theirs,
+            met(most, ours - before, theirs)
         ),
         Ends::Fields(n) => format!(
             "{:.1} and {:.1} ns a field",
@@ -220,11 +235,10 @@ fn remark(ends: &Ends, ours: f64, theirs: f64) -> String {
     }
 }
 
-fn print_row(what: &str, ends: &Ends, ours: f64, theirs: f64) {
+fn print_row(what: &str, remark: &str, ours: f64, theirs: f64) {
     println!(
-        "| {what} | {ours:.0} | {theirs:.0} | {:.2} | {} |",
-        ours / theirs,
-        remark(ends, ours, theirs)
+        "| {what} | {ours:.0} | {theirs:.0} | {:.2} | {remark} |",
+        ours / theirs
     );
 }
 
@@ -237,7 +251,14 @@ fn main() {
     }
     let times = measure::all(&mut calls);
     println!("| call of the port, of the Rust | port, ns | Rust, ns | ratio | |\n|---|---:|---:|---:|---|");
+    let mut before = 0.0;
     for ((what, ends), pair) in heads.iter().zip(times.chunks_exact(2)) {
-        print_row(what, ends, pair[0], pair[1]);
+        print_row(
+            what,
+            &remark(ends, before, pair[0], pair[1]),
+            pair[0],
+            pair[1],
+        );
+        before = pair[0];
     }
 }

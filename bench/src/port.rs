@@ -14,6 +14,15 @@ extern "C" {
         hash: *mut u64,
         visits: *mut usize,
     ) -> u8;
+    fn owl_verdict(
+        cat: *const u8,
+        cat_len: usize,
+        stream: *const u8,
+        stream_len: usize,
+        k: usize,
+        compiled: *const u8,
+        compiled_len: usize,
+    ) -> u8;
 }
 
 pub fn check_catalogue(cat: &[u8]) -> u8 {
@@ -45,4 +54,19 @@ pub fn layout_hash(cat: &[u8], layout: &[u8]) -> Option<u64> {
         )
     };
     (status == 0).then_some(hash)
+}
+
+/// Of the stream's first record: 0 where it is compiled, 254 where it is not.
+pub fn verdict(cat: &[u8], stream: &[u8], compiled: &[u8]) -> u8 {
+    unsafe {
+        owl_verdict(
+            cat.as_ptr(),
+            cat.len(),
+            stream.as_ptr(),
+            stream.len(),
+            0,
+            compiled.as_ptr(),
+            compiled.len(),
+        )
+    }
 }

@@ -1,6 +1,8 @@
 //! What each word asks: a function for each takes the words after it and answers, or answers nothing where they are malformed.
 use crate::layout::{wire, RecordLayout, StreamLayout};
 
+mod comparing;
+
 /// What earlier lines stated.
 pub struct Kept {
     layout: StreamLayout,
@@ -37,6 +39,10 @@ const WORDS: &[(&str, usize, Ask)] = &[
     ("begin", 1, begin),
     ("call", 1, call),
     ("entry", 1, entry),
+    ("verdict", 2, comparing::verdict),
+    ("verdict_of", 2, comparing::verdict_of),
+    ("by_id", 2, comparing::by_id),
+    ("by_name", 2, comparing::by_name),
 ];
 
 fn asked(words: &[&str]) -> Option<Ask> {

@@ -1,7 +1,7 @@
 -- Admission: refusals 1 to 6, each over the whole input before the next.
 use Prim.Native.Nat.{ℕ}
-use mathlib.Core.Bool.{Bool, true, false, _&&_}
-use mathlib.Core.List.{List}
+use mathlib.Core.Bool.{Bool, true, false, cond, _&&_}
+use mathlib.Core.List.{List, [], _∷_}
 use Rattle.limits.specs.Refusal.{numberOf}
 use Rattle.limits.specs.declared.refusal.Refusal.{Refusal}
 use Rattle.limits.specs.declared.refusal.Refusal.the-variants.{BadCatalogue, BadShape, ReservedByte, OutOfBounds, SharedByte, WrongWidth}
@@ -31,19 +31,30 @@ abbrev pub unless : Bool → Refusal → Admitted → Admitted
 unless true refusal rest = rest
 unless false refusal rest = Refused refusal
 
--- refusals 3 to 6
-abbrev pub admitTables : List ℕ → List ℕ → Admitted
-admitTables cat l =
-    unless (layoutOk Reserved cat l) ReservedByte
-    (unless (layoutOk Bounds cat l) OutOfBounds
-    (unless (layoutOk Apart cat l) SharedByte
-    (unless (layoutOk Width cat l) WrongWidth Fine)))
+-- refusals 3 to 6 of the layouts lent, each of all of them before the next
+abbrev pub admitTables : List ℕ → List (List ℕ) → Admitted
+admitTables cat ls =
+    unless (every (layoutOk Reserved cat) ls) ReservedByte
+    (unless (every (layoutOk Bounds cat) ls) OutOfBounds
+    (unless (every (layoutOk Apart cat) ls) SharedByte
+    (unless (every (layoutOk Width cat) ls) WrongWidth Fine)))
 
 abbrev pub admitCatalogue : List ℕ → Admitted
 admitCatalogue cat = unless (catalogueOk cat) BadCatalogue Fine
 
-unfoldable pub admitOf : List ℕ → List ℕ → Admitted
-admitOf cat l = unless (catalogueOk cat) BadCatalogue (unless (shapeOk l) BadShape (admitTables cat l))
+unfoldable pub admitAll : List ℕ → List (List ℕ) → Admitted
+admitAll cat ls = unless (catalogueOk cat) BadCatalogue (unless (every shapeOk ls) BadShape (admitTables cat ls))
+
+-- one layout, and two
+abbrev pub admitOf : List ℕ → List ℕ → Admitted
+admitOf cat l = admitAll cat (l ∷ [])
+
+abbrev pub admitBoth : List ℕ → List ℕ → List ℕ → Admitted
+admitBoth cat a b = admitAll cat (a ∷ b ∷ [])
+
+-- what the code is lent: both, or the first alone
+abbrev pub given : Bool → List ℕ → List ℕ → List (List ℕ)
+given both a b = cond both (a ∷ b ∷ []) (a ∷ [])
 
 -- the paper's number, 0 where nothing is refused
 abbrev pub statusOf : Admitted → ℕ

@@ -1,10 +1,12 @@
-// Admission of a layout under a catalogue: refusals 1 to 6, each over the whole input before the next.
+// Admission of a layout, or of two, under a catalogue: refusals 1 to 6, each over the whole input before the next.
 ghost use mathlib.Core.Path.{_≡_};
 ghost use Rattle.lent.specs.Scan.{every};
 ghost use Rattle.layout.specs.Layout.{heads};
-ghost use Rattle.admission.specs.Admission.{headOk, layoutOk, admitTables, admitOf};
+ghost use Rattle.layout.specs.Shape.{shapeOk};
+ghost use Rattle.admission.specs.Admission.{headOk, layoutOk, given, admitTables, admitAll, admitOf, admitBoth};
 use layout::block;
 use layout::block::Holder;
+use layout::shape;
 use limits::refusal::Refusal;
 use table::Rule;
 
@@ -36,32 +38,63 @@ fn layout_ok(rule: Rule, cat: &[u8], l: &[u8]) -> bool
     tables_ok(rule, Holder::Record, cat, l) & tables_ok(rule, Holder::Struct, cat, l)
 }
 
-fn admit_tables(cat: &[u8], l: &[u8]) -> Admitted
-    ensures { λ r. ⌜ r ≡ admitTables (now (cat .entry)) (now (l .entry)) ⌝ }
+// Of both layouts, or of the first alone.
+fn layouts_ok(rule: Rule, cat: &[u8], both: bool, a: &[u8], b: &[u8]) -> bool
+    ensures { λ r. ⌜ r ≡ every (layoutOk rule (now (cat .entry))) (given both (now (a .entry)) (now (b .entry))) ⌝ }
 {
-    if !layout_ok(Rule::Reserved, cat, l) {
+    if both {
+        return layout_ok(rule, cat, a) & layout_ok(rule, cat, b);
+    }
+    layout_ok(rule, cat, a)
+}
+
+fn shapes_ok(both: bool, a: &[u8], b: &[u8]) -> bool
+    ensures { λ r. ⌜ r ≡ every shapeOk (given both (now (a .entry)) (now (b .entry))) ⌝ }
+{
+    if both {
+        return shape::shape_ok(a) & shape::shape_ok(b);
+    }
+    shape::shape_ok(a)
+}
+
+fn admit_tables(cat: &[u8], both: bool, a: &[u8], b: &[u8]) -> Admitted
+    ensures { λ r. ⌜ r ≡ admitTables (now (cat .entry)) (given both (now (a .entry)) (now (b .entry))) ⌝ }
+{
+    if !layouts_ok(Rule::Reserved, cat, both, a, b) {
         return Admitted::Refused(Refusal::ReservedByte);
     }
-    if !layout_ok(Rule::Bounds, cat, l) {
+    if !layouts_ok(Rule::Bounds, cat, both, a, b) {
         return Admitted::Refused(Refusal::OutOfBounds);
     }
-    if !layout_ok(Rule::Apart, cat, l) {
+    if !layouts_ok(Rule::Apart, cat, both, a, b) {
         return Admitted::Refused(Refusal::SharedByte);
     }
-    if !layout_ok(Rule::Width, cat, l) {
+    if !layouts_ok(Rule::Width, cat, both, a, b) {
         return Admitted::Refused(Refusal::WrongWidth);
     }
     Admitted::Fine
 }
 
-pub fn admit(cat: &[u8], l: &[u8]) -> Admitted
-    ensures { λ r. ⌜ r ≡ admitOf (now (cat .entry)) (now (l .entry)) ⌝ }
+fn admit_given(cat: &[u8], both: bool, a: &[u8], b: &[u8]) -> Admitted
+    ensures { λ r. ⌜ r ≡ admitAll (now (cat .entry)) (given both (now (a .entry)) (now (b .entry))) ⌝ }
 {
     if !catalogue::catalogue_ok(cat) {
         return Admitted::Refused(Refusal::BadCatalogue);
     }
-    if !layout::shape::shape_ok(l) {
+    if !shapes_ok(both, a, b) {
         return Admitted::Refused(Refusal::BadShape);
     }
-    admit_tables(cat, l)
+    admit_tables(cat, both, a, b)
+}
+
+pub fn admit(cat: &[u8], l: &[u8]) -> Admitted
+    ensures { λ r. ⌜ r ≡ admitOf (now (cat .entry)) (now (l .entry)) ⌝ }
+{
+    admit_given(cat, false, l, l)
+}
+
+pub fn admit_both(cat: &[u8], a: &[u8], b: &[u8]) -> Admitted
+    ensures { λ r. ⌜ r ≡ admitBoth (now (cat .entry)) (now (a .entry)) (now (b .entry)) ⌝ }
+{
+    admit_given(cat, true, a, b)
 }

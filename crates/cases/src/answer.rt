@@ -62,3 +62,11 @@ pub fn same(out: &mut [u8]) -> usize {
 pub fn different(out: &mut [u8]) -> usize {
     put::text(out, 0, b"different")
 }
+
+pub fn compiled(out: &mut [u8]) -> usize {
+    put::text(out, 0, b"compiled")
+}
+
+pub fn dynamic(out: &mut [u8]) -> usize {
+    put::text(out, 0, b"dynamic")
+}

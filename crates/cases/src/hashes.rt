@@ -1,5 +1,6 @@
 // The words that ask for sums and hashes.
 use crate::answer;
+use crate::comparing;
 use crate::kept::Table;
 use caseline::Parsed;
 use tuppenceowl::hashing;
@@ -62,7 +63,7 @@ fn ask_boot(line: &[u8], cat: &[u8], layout: &[u8], out: &mut [u8]) -> usize {
     }
 }
 
-// The answer to a line with one of these words; any other line is malformed.
+// The answer to a line with one of these words, or with one of those after them.
 pub fn asked(line: &[u8], cat: &[u8], layout: &[u8], table: &mut Table, out: &mut [u8]) -> usize {
     let word = caseline::word(line, 0);
     if check::same(word, b"sum") {
@@ -77,5 +78,5 @@ pub fn asked(line: &[u8], cat: &[u8], layout: &[u8], table: &mut Table, out: &mu
     if check::same(word, b"boot") {
         return ask_boot(line, cat, layout, out);
     }
-    answer::malformed(out)
+    comparing::asked(line, cat, layout, table, out)
 }

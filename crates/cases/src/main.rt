@@ -1,5 +1,6 @@
 // Reads cases from standard input, one a line, and writes the answer to each as a line to standard output.
 mod answer;
+mod comparing;
 mod hashes;
 mod input;
 mod kept;

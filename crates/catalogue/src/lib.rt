@@ -5,7 +5,7 @@ ghost use lib.ListN.{length};
 ghost use lib.Dec.{eqb};
 ghost use Rattle.lent.specs.Bytes.{byteAt};
 ghost use Rattle.lent.specs.Scan.{gather, every, tally};
-ghost use Rattle.catalogue.specs.Catalogue.{classOf, widthOf, arrayFlag, extensionFlag, paddingId, idOf, kinds, isWidth, isBit, kindOk, within, count, countClass, oneEach, othersOk, flagsOk, catalogueOk};
+ghost use Rattle.catalogue.specs.Catalogue.{classOf, widthOf, arrayFlag, extensionFlag, headerId, paddingId, idOf, kinds, isWidth, isBit, kindOk, within, count, countClass, oneEach, othersOk, flagsOk, catalogueOk};
 
 pub const SIZE: usize = 262;
 
@@ -16,6 +16,8 @@ const HALF: usize = 128;
 const ARRAY_FLAG: usize = 256;
 
 const EXTENSION_FLAG: usize = 257;
+
+const HEADER_ID: usize = 258;
 
 const PADDING_ID: usize = 260;
 
@@ -89,6 +91,13 @@ pub fn id_of(cat: &[u8], class: u8) -> u8
         left -= 1;
     }
     id
+}
+
+// The header's field id.
+pub fn header_id(cat: &[u8]) -> u16
+    ensures { λ r. ⌜ r ≡ headerId (now (cat .entry)) ⌝ }
+{
+    lent::u16_at(cat, HEADER_ID)
 }
 
 // ---- refusal 1

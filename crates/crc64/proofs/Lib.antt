@@ -2,6 +2,7 @@ pub mod Xor
 pub mod Shifts
 pub mod Entries
 pub mod Agree
+pub mod Words
 pub mod Turns
 pub mod Runs
 pub mod Vectors

@@ -18,6 +18,10 @@ unfoldable pub shifts : ℕ → ℕ → ℕ
 shifts zero fp = fp
 shifts (suc n) fp = shifts n (shift fp)
 
+-- what a sum becomes that a byte was xored into
+abbrev pub due : ℕ → ℕ
+due x = shifts 8 x
+
 -- a byte is xored into the low eight bits, and eight shifts follow
 unfoldable pub byteStep : ℕ → ℕ → ℕ
 byteStep fp b = shifts 8 (bitXor fp b)

@@ -1,7 +1,9 @@
 // A byte at a time, by a table of what eight shifts give. The table is laid out once and lent: an index into the constant
 // would lay all of it out again.
 ghost use mathlib.Core.Path.{_≡_};
-ghost use Rattle.crc64.specs.Sum.{byteTable, byteStep, u16Step, bytesStep};
+ghost use Prim.Native.Nat.{_<_, _^_};
+ghost use Rattle.lent.specs.Bytes.{bytesOf};
+ghost use Rattle.crc64.specs.Sum.{byteTable, due, byteStep, bytesStep};
 
 // Entry i is eight shifts of i.
 const TABLE: [u64; 256] = [
@@ -269,32 +271,56 @@ pub fn table() -> [u64; 256]
     TABLE
 }
 
-pub fn step_u8(t: &[u64; 256], fp: u64, b: u8) -> u64
+// Of a sum that something was xored into, the eight shifts that are due.
+fn shifted(t: &[u64; 256], x: u64) -> u64
     requires { ⌜ now t ≡ byteTable ⌝ }
-    ensures { λ r. ⌜ r ≡ byteStep fp b ⌝ }
+    ensures { λ r. ⌜ r ≡ due x ⌝ }
 {
-    let i = ((fp ^ (b as u64)) & 0xFF) as usize;
-    (fp >> 8) ^ t[i]
+    let i = (x & 0xFF) as usize;
+    (x >> 8) ^ t[i]
 }
 
-// The low byte goes first.
-pub fn step_u16(t: &[u64; 256], fp: u64, v: u16) -> u64
-    requires { ⌜ now t ≡ byteTable ⌝ }
-    ensures { λ r. ⌜ r ≡ u16Step fp v ⌝ }
+// A number of n bytes, the low one first: all of it is xored in at once, and then each byte's shifts follow.
+pub fn step_number(t: &[u64; 256], fp: u64, v: u64, n: usize) -> u64
+    requires { ⌜ (now t ≡ byteTable) × (v < 256 ^ n) ⌝ }
+    ensures { λ r. ⌜ r ≡ bytesStep fp (bytesOf n v) ⌝ }
 {
-    let low = step_u8(t, fp, (v & 0xFF) as u8);
-    step_u8(t, low, (v >> 8) as u8)
+    let mut x = fp ^ v;
+    let mut left = n;
+    while left != 0 {
+        x = shifted(t, x);
+        left -= 1;
+    }
+    x
+}
+
+// A run of bytes is carried with a byte xored in and its shifts due: the next byte goes in beside the look-up, not after it.
+fn begun(fp: u64, b: u8) -> u64
+    ensures { λ r. ⌜ due r ≡ byteStep fp b ⌝ }
+{
+    fp ^ (b as u64)
+}
+
+fn carried(t: &[u64; 256], x: u64, b: u8) -> u64
+    requires { ⌜ now t ≡ byteTable ⌝ }
+    ensures { λ r. ⌜ due r ≡ byteStep (due x) b ⌝ }
+{
+    let i = (x & 0xFF) as usize;
+    ((x >> 8) ^ (b as u64)) ^ t[i]
 }
 
 pub fn step_bytes(t: &[u64; 256], start: u64, b: &[u8]) -> u64
     requires { ⌜ now t ≡ byteTable ⌝ }
     ensures { λ r. ⌜ r ≡ bytesStep start (now (b .entry)) ⌝ }
 {
-    let mut fp = start;
-    let mut i = 0;
+    if b.len() == 0 {
+        return start;
+    }
+    let mut x = begun(start, b[0]);
+    let mut i = 1;
     while i < b.len() {
-        fp = step_u8(t, fp, b[i]);
+        x = carried(t, x, b[i]);
         i += 1;
     }
-    fp
+    shifted(t, x)
 }

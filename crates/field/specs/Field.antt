@@ -10,7 +10,7 @@ use mir.Syntax.{w8}
 use mir.Val.{toZ, ofZ}
 use Rattle.lent.specs.Bytes.{byteAt, numberAt}
 use Rattle.lent.specs.Scan.{gather}
-use Rattle.catalogue.specs.Catalogue.{classOf, arrayFlag, unsigned, signed}
+use Rattle.catalogue.specs.Catalogue.{classOf, arrayFlag, unsigned, signed, struct, padding}
 use Rattle.field.specs.declared.FieldDef.{FieldDef}
 
 -- the number that a byte holds in two's complement
@@ -52,3 +52,9 @@ isInteger cat f = eqb (classOf cat (f .«type_id»)) unsigned || eqb (classOf ca
 -- a signed or unsigned field that is no array
 abbrev pub isPlainInteger : List ℕ → FieldDef → Bool
 isPlainInteger cat f = isInteger cat f && not (isArray cat f)
+
+abbrev pub isStruct : List ℕ → FieldDef → Bool
+isStruct cat f = eqb (classOf cat (f .«type_id»)) struct
+
+abbrev pub isPadding : List ℕ → FieldDef → Bool
+isPadding cat f = eqb (classOf cat (f .«type_id»)) padding

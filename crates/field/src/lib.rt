@@ -3,7 +3,7 @@ ghost use mathlib.Core.Path.{_≡_};
 ghost use Prim.Native.Nat.{_+_, _*_, _<_, _≤_};
 ghost use lib.ListN.{length};
 ghost use Rattle.lent.specs.Bytes.{numberAt};
-ghost use Rattle.field.specs.Field.{signedByte, byteOf, fieldAt, endOf, isInteger, isArray, isPlainInteger};
+ghost use Rattle.field.specs.Field.{signedByte, byteOf, fieldAt, endOf, isInteger, isArray, isPlainInteger, isStruct, isPadding};
 
 // Bytes of a field in its table.
 pub const SIZE: usize = 16;
@@ -99,7 +99,7 @@ pub fn end_of(f: FieldDef) -> usize
     lent::wide16(f.offset) + lent::wide16(f.size)
 }
 
-fn is_integer(cat: &[u8], f: FieldDef) -> bool
+pub fn is_integer(cat: &[u8], f: FieldDef) -> bool
     ensures { λ r. ⌜ r ≡ isInteger (now (cat .entry)) f ⌝ }
 {
     let class = catalogue::class_of(cat, f.type_id);
@@ -116,4 +116,16 @@ pub fn is_plain_integer(cat: &[u8], f: FieldDef) -> bool
     ensures { λ r. ⌜ r ≡ isPlainInteger (now (cat .entry)) f ⌝ }
 {
     is_integer(cat, f) & !is_array(cat, f)
+}
+
+pub fn is_struct(cat: &[u8], f: FieldDef) -> bool
+    ensures { λ r. ⌜ r ≡ isStruct (now (cat .entry)) f ⌝ }
+{
+    catalogue::class_of(cat, f.type_id) == catalogue::STRUCT
+}
+
+pub fn is_padding(cat: &[u8], f: FieldDef) -> bool
+    ensures { λ r. ⌜ r ≡ isPadding (now (cat .entry)) f ⌝ }
+{
+    catalogue::class_of(cat, f.type_id) == catalogue::PADDING
 }

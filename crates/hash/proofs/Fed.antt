@@ -1,8 +1,11 @@
--- A field's bytes go into a sum, number by number. Assumes nothing.
+-- A field's bytes go into a sum. Assumes nothing.
 use mathlib.Core.Path.{_≡_, _∙_}
-use Prim.Native.Nat.{ℕ, _/_, _%_, _<_}
-use native.Mathlib.Omega.{arith}
-use Rattle.crc64.specs.Sum.{byteStep, u16Step, bytesStep}
+use mathlib.Core.List.{append-assoc}
+use Prim.Native.Nat.{ℕ, _+_, _*_, _<_}
+use Rattle.crc64.specs.Sum.{bytesStep}
+use Rattle.crc64.proofs.Runs.{joined}
+use Rattle.lent.specs.Bytes.{bytesOf}
+use Rattle.lent.proofs.Bytes.{bytes-add}
 use Rattle.field.specs.Field.{byteOf}
 use Rattle.field.specs.declared.FieldDef.{FieldDef}
 use Rattle.hash.specs.Walk.{fieldBytes}
@@ -16,21 +19,20 @@ pub record Ranges (f : FieldDef) : Type 0 where
   pub flags : f .flags < 256
   pub scale : byteOf (f .scale) < 256
 
--- a field's bytes, number by number
-pub fed-field : (f : FieldDef) → Ranges f → (fp a b c d e r : ℕ)
-    → a ≡ u16Step fp (f .«field_id»)
-    → b ≡ u16Step a (f .offset)
-    → c ≡ u16Step b (f .size)
-    → d ≡ byteStep c (f .«type_id»)
-    → e ≡ byteStep d (f .flags)
-    → r ≡ byteStep e (byteOf (f .scale))
+-- its first five numbers, joined, and its scale
+pub fed-field : (f : FieldDef) → Ranges f → (fp sum r : ℕ)
+    → sum ≡ bytesStep fp (bytesOf 8 (f .«field_id» + 65536 * (f .offset + 65536 * (f .size + 65536 * (f .«type_id» + 256 * f .flags)))))
+    → r ≡ bytesStep sum (bytesOf 1 (byteOf (f .scale)))
     → r ≡ bytesStep fp (fieldBytes f)
-unfolding fieldBytes u16Step bytesStep
-fed-field f g fp a b c d e r ea eb ec ed ee er =
-    let i : f .«field_id» / 256 % 256 ≡ f .«field_id» / 256 = omega (arith, g .id) in
-    let o : f .offset / 256 % 256 ≡ f .offset / 256 = omega (arith, g .offset) in
-    let s : f .size / 256 % 256 ≡ f .size / 256 = omega (arith, g .size) in
-    let t : f .«type_id» % 256 ≡ f .«type_id» = omega (arith, g .type) in
-    let l : f .flags % 256 ≡ f .flags = omega (arith, g .flags) in
-    let k : byteOf (f .scale) % 256 ≡ byteOf (f .scale) = omega (arith, g .scale) in
-    er ∙ rw (ee, ed, ec, eb, ea, i, o, s, t, l, k)
+unfolding fieldBytes
+fed-field f g fp sum r es er =
+    er
+    ∙ rw (
+      es,
+      bytes-add 2 6 (f .«field_id») (f .offset + 65536 * (f .size + 65536 * (f .«type_id» + 256 * f .flags))) (g .id),
+      bytes-add 2 4 (f .offset) (f .size + 65536 * (f .«type_id» + 256 * f .flags)) (g .offset),
+      bytes-add 2 2 (f .size) (f .«type_id» + 256 * f .flags) (g .size),
+      bytes-add 1 1 (f .«type_id») (f .flags) (g .type),
+      ← joined,
+    )
+    (simp append-assoc)

@@ -3,26 +3,24 @@ use mathlib.Core.Path.{_≡_, refl, sym, ap, _∙_, subst}
 use mathlib.Core.Bool.{Bool, true, false, cond, _&&_}
 use mathlib.Core.List.{List, [], _∷_, map}
 use Prim.Native.Nat.{ℕ, zero, suc, _+_, _-_, _*_, _/_, _≤_, _<_}
-use native.Mathlib.Numerals.{add-one}
 use native.Mathlib.Omega.{arith}
 use borrow.Author.Tests.{ltb-true}
 use lib.Dec.{ltb, eqb}
 use lib.ListN.{length, getD, take, drop, drop-of-length-le, length-take}
-use lib.Seq.{drop-cons, getD-take, length-take-le}
 use Rattle.limits.specs.declared.refusal.Refusal.{Refusal}
 use Rattle.limits.specs.declared.refusal.Refusal.the-variants.{OverBudget, TooDeep}
 use Rattle.lent.specs.Bytes.{bytesOf}
 use Rattle.lent.specs.Scan.{gather}
-use Rattle.lent.proofs.Scan.{both}
+use Rattle.lent.proofs.Scan.{both, entry}
 use Rattle.catalogue.specs.Catalogue.{classOf, struct}
 use Rattle.crc64.specs.Sum.{bytesStep}
 use Rattle.field.specs.Field.{fieldAt, fieldsOf}
 use Rattle.field.specs.declared.FieldDef.{FieldDef}
 use Rattle.order.specs.Order.{byOffset}
-use Rattle.layout.specs.Layout.{structAt, countOf}
+use Rattle.layout.specs.Layout.{structAt, countOf, headOf, structOf, FewFields}
 use Rattle.layout.specs.declared.block.Holder.the-variants.{Struct}
-use Rattle.hash.specs.Walk.{Walked, Went, Stopped, after, fieldBytes, structOf, namesStruct, walkField, walkFields, walkTable}
-use Rattle.hash.specs.Parts.{told, headOf, visitOf, FewFields}
+use Rattle.hash.specs.Walk.{Walked, Went, Stopped, after, fieldBytes, namesStruct, walkField, walkFields, walkTable}
+use Rattle.hash.specs.Parts.{told, visitOf}
 use Rattle.hash.specs.declared.Hashed.{Hashed}
 use Rattle.hash.specs.declared.Hashed.the-variants.{Sum, Refused}
 use Rattle.hash.specs.declared.Visit.{Visit}
@@ -67,8 +65,8 @@ module _ (cat l : List ℕ) (budget : ℕ) (f : FieldDef) (fp visits : ℕ) wher
   few-entered h r e = subst (λ (v : Visit). Few l v) (sym e) (go (ltb visits budget) (namesStruct cat l f) refl) where
     go : (p q : Bool) → q ≡ namesStruct cat l f → Few l (cond p (cond q enters goes-on) Over)
     go true true z =
-        h .few (f .«def_index»)
-        (ltb-true (f .«def_index») (countOf Struct l) (both (eqb (classOf cat (f .«type_id»)) struct) (ltb (f .«def_index») (countOf Struct l)) (sym z) .1))
+        let z = h .few (f .«def_index»)
+        (ltb-true (f .«def_index») (countOf Struct l) (both (eqb (classOf cat (f .«type_id»)) struct) (ltb (f .«def_index») (countOf Struct l)) (sym z) .1)) in omega arith
     go true false z = tt
     go false q z = tt
 
@@ -90,11 +88,7 @@ module _ (cat l : List ℕ) (budget : ℕ) (enter : List FieldDef → ℕ → �
   module _ (fits : n ≤ length o) (h : k < n) where
     turn : told (after (walkField bytesStep cat l budget enter (F (getD o k 0)) fp visits) (walkFields bytesStep cat l budget enter (map F (drop (k + 1) (take n o))))) ≡ all
     unfolding walkFields
-    turn =
-        let i : k < length (take n o) = omega (arith, length-take-le n o fits) in
-        let e : drop k (take n o) ≡ getD o k 0 ∷ drop (k + 1) (take n o) =
-        rw (add-one k, ← getD-take n o k 0 h) (drop-cons (take n o) k 0 i) in
-        rw e at so
+    turn = rw (entry o n k fits h) at so
 
     -- the field's walk goes through: the rest decides
     pub walk-goes : (s v : ℕ) → Sum s v ≡ told (walkField bytesStep cat l budget enter (F (getD o k 0)) fp visits)

@@ -1,16 +1,14 @@
 -- What the parts of the code compute: the same walk, feeding a running sum.
-use Prim.Native.Nat.{ℕ, _+_, _*_, _<_, _≤_}
+use Prim.Native.Nat.{ℕ, _+_, _<_}
 use mathlib.Core.Bool.{cond}
 use mathlib.Core.List.{List}
 use lib.Dec.{ltb}
-use lib.ListN.{length}
 use Rattle.lent.specs.Bytes.{bytesOf}
 use Rattle.crc64.specs.Sum.{bytesStep}
 use Rattle.field.specs.Field.{fieldAt}
 use Rattle.field.specs.declared.FieldDef.{FieldDef}
-use Rattle.layout.specs.Layout.{structAt, countOf, headsFrom}
-use Rattle.layout.specs.declared.block.Holder.the-variants.{Struct}
-use Rattle.hash.specs.Walk.{Walked, Went, Stopped, fieldBytes, structOf, namesStruct}
+use Rattle.layout.specs.Layout.{headOf, structOf}
+use Rattle.hash.specs.Walk.{Walked, Went, Stopped, fieldBytes, namesStruct}
 use Rattle.hash.specs.declared.Hashed.{Hashed}
 use Rattle.hash.specs.declared.Hashed.the-variants.{Sum, Refused}
 use Rattle.hash.specs.declared.Visit.{Visit}
@@ -25,10 +23,6 @@ told (Stopped refusal) = Refused refusal
 abbrev pub rowStep : ℕ → List ℕ → ℕ
 rowStep fp row = bytesStep fp (fieldBytes (fieldAt row 0))
 
--- where the head of the struct stands that a field names
-abbrev pub headOf : List ℕ → FieldDef → ℕ
-headOf l f = headsFrom Struct l + 48 * f .«def_index»
-
 unfoldable pub visitOf : List ℕ → List ℕ → ℕ → FieldDef → ℕ → ℕ → Visit
 visitOf cat l budget f fp visits =
     cond (ltb visits budget)
@@ -42,7 +36,3 @@ abbrev pub near : Visit → Type 0
 near (On fp visits) = Unit {0}
 near (Enter fp visits head) = head < 7864320
 near Over = Unit {0}
-
--- no struct has more fields than an order has room for
-pub record FewFields (l : List ℕ) : Type 0 where
-  pub few : (k : ℕ) → k < countOf Struct l → length (structAt l (headsFrom Struct l + 48 * k) .table) ≤ 2048

@@ -1,18 +1,16 @@
 -- The walk behind a layout's hash: which bytes it feeds a sum, in order, and how many fields it visits.
-use Prim.Native.Nat.{ℕ, zero, suc, _+_, _-_, _*_}
+use Prim.Native.Nat.{ℕ, zero, suc, _+_}
 use mathlib.Core.Bool.{Bool, cond, _&&_}
 use mathlib.Core.List.{List, [], _∷_, _++_}
-use lib.Dec.{ltb, eqb}
+use lib.Dec.{ltb}
 use Rattle.limits.specs.Limits.{maxLevel}
 use Rattle.limits.specs.declared.refusal.Refusal.{Refusal}
 use Rattle.limits.specs.declared.refusal.Refusal.the-variants.{TooDeep, OverBudget}
 use Rattle.lent.specs.Bytes.{bytesOf}
-use Rattle.catalogue.specs.Catalogue.{classOf, struct}
-use Rattle.field.specs.Field.{fieldsOf, byteOf}
+use Rattle.field.specs.Field.{fieldsOf, byteOf, isStruct}
 use Rattle.field.specs.declared.FieldDef.{FieldDef}
 use Rattle.order.specs.Order.{byOffset}
-use Rattle.layout.specs.Layout.{StructLayout, structAt, countOf, headsFrom}
-use Rattle.layout.specs.declared.block.Holder.the-variants.{Struct}
+use Rattle.layout.specs.Layout.{structOf, hasStruct}
 
 -- a field's own bytes; def_index is none of them
 unfoldable pub fieldBytes : FieldDef → List ℕ
@@ -25,13 +23,9 @@ pub data Walked (S : Type 0) : Type 0 where
   Went : S → ℕ → Walked S
   Stopped : Refusal → Walked S
 
--- the struct that a field names
-abbrev pub structOf : List ℕ → FieldDef → StructLayout
-structOf l f = structAt l (headsFrom Struct l + 48 * f .«def_index»)
-
 -- a struct field whose def_index is in the table
 abbrev pub namesStruct : List ℕ → List ℕ → FieldDef → Bool
-namesStruct cat l f = eqb (classOf cat (f .«type_id»)) struct && ltb (f .«def_index») (countOf Struct l)
+namesStruct cat l f = isStruct cat f && hasStruct l f
 
 -- on from where a walk stands
 abbrev pub after : {S : Type 0} → Walked S → (S → ℕ → Walked S) → Walked S

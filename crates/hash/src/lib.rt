@@ -7,7 +7,8 @@ ghost use Rattle.crc64.specs.Sum.{byteTable, bytesStep};
 ghost use Rattle.field.specs.Field.{fieldsOf};
 ghost use Rattle.hash.specs.Walk.{fieldBytes, namesStruct, walkField, walkTable};
 ghost use Rattle.hash.specs.Hash.{hashOf};
-ghost use Rattle.hash.specs.Parts.{visitOf, near, told, rowStep, FewFields};
+ghost use Rattle.hash.specs.Parts.{visitOf, near, told, rowStep};
+ghost use Rattle.layout.specs.Layout.{FewFields};
 use crc64::Crc64;
 use crc64::bytewise;
 use field::FieldDef;
@@ -28,25 +29,21 @@ enum Visit {
     Over,
 }
 
-// A field's own bytes.
+// A field's own bytes: the eight that stand together in its row go in as one number, then the scale.
 fn field_sum(t: &[u64; 256], start: u64, f: FieldDef) -> u64
     requires { ⌜ now t ≡ byteTable ⌝ }
     ensures { λ r. ⌜ r ≡ bytesStep start (fieldBytes f) ⌝ }
 {
-    let id = bytewise::step_u16(t, start, f.field_id);
-    let offset = bytewise::step_u16(t, id, f.offset);
-    let size = bytewise::step_u16(t, offset, f.size);
-    let kind = bytewise::step_u8(t, size, f.type_id);
-    let flags = bytewise::step_u8(t, kind, f.flags);
-    bytewise::step_u8(t, flags, field::scale_byte(f.scale))
+    let kind = (f.type_id as u64) + 256 * (f.flags as u64);
+    let place = (f.offset as u64) + 65536 * ((f.size as u64) + 65536 * kind);
+    let sum = bytewise::step_number(t, start, (f.field_id as u64) + 65536 * place, 8);
+    bytewise::step_number(t, sum, field::scale_byte(f.scale) as u64, 1)
 }
 
 fn names_struct(cat: &[u8], l: &[u8], f: FieldDef) -> bool
     ensures { λ r. ⌜ r ≡ namesStruct (now (cat .entry)) (now (l .entry)) f ⌝ }
 {
-    let class = catalogue::class_of(cat, f.type_id);
-    let structs = block::count_of(Holder::Struct, l);
-    (class == catalogue::STRUCT) & (lent::wide16(f.def_index) < structs)
+    field::is_struct(cat, f) & block::has_struct(l, f)
 }
 
 // A struct's size, which goes in before its fields: two bytes.
@@ -54,8 +51,7 @@ fn size_sum(t: &[u64; 256], start: u64, size: usize) -> u64
     requires { ⌜ now t ≡ byteTable ⌝ }
     ensures { λ r. ⌜ r ≡ bytesStep start (bytesOf 2 size) ⌝ }
 {
-    let low = bytewise::step_u8(t, start, (size % 256) as u8);
-    bytewise::step_u8(t, low, (size / 256 % 256) as u8)
+    bytewise::step_number(t, start, (size % 65536) as u64, 2)
 }
 
 // All of a field's walk that does not enter anything.

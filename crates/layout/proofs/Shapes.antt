@@ -12,7 +12,7 @@ use Rattle.lent.specs.Bytes.{numberAt}
 use Rattle.lent.specs.Scan.{every}
 use Rattle.lent.proofs.Bytes.{part-length}
 use Rattle.lent.proofs.Scan.{both, nth}
-use Rattle.layout.specs.Layout.{startAt, lengthAt, recordAt, structAt, countOf, headsFrom, heads}
+use Rattle.layout.specs.Layout.{startAt, lengthAt, recordAt, structAt, countOf, headsFrom, heads, FewFields}
 use Rattle.layout.specs.Shape.{nameOk, partOk, tableShape, namesShape, recordShape, structShape, headShape, countsOk, shapeOk}
 use Rattle.layout.specs.declared.block.Holder.the-variants.{Record, Struct}
 
@@ -43,3 +43,6 @@ module _ (l : List ℕ) (k : ℕ) (shaped : shapeOk l ≡ true) where
       let y = both (nameOk l (at + 12)) (tableShape l (at + 4) maxStructFields) (both (leb (numberAt l at 4) maxBytes) _ z .1) .1 in
       let x = few l (at + 4) maxStructFields y in
       omega (arith, part-length l (startAt l (at + 4)) (lengthAt l (at + 4)))
+
+pub shaped-few : (l : List ℕ) → shapeOk l ≡ true → FewFields l
+shaped-few l e = record { few = λ k h. few-in-struct l k e h }

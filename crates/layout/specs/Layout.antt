@@ -1,10 +1,14 @@
 -- A layout in one block of bytes (docs/FORMATS.md): a head of 8 bytes, a head of 72 for each record, one of 48 for each struct, and
 -- anywhere in the block the tables and the field names that the heads point at. Any bytes are a layout.
-use Prim.Native.Nat.{ℕ, _+_, _*_, _/_}
+use Prim.Native.Nat.{ℕ, _+_, _*_, _/_, _<_, _≤_}
+use mathlib.Core.Bool.{Bool}
 use mathlib.Core.List.{List, map}
+use lib.Dec.{ltb}
+use lib.ListN.{length}
 use Rattle.lent.specs.Bytes.{byteAt, numberAt, window, partOf}
 use Rattle.lent.specs.Scan.{gather, places}
-use Rattle.limits.specs.Limits.{maxBytes}
+use Rattle.limits.specs.Limits.{maxBytes, maxStructFields}
+use Rattle.field.specs.declared.FieldDef.{FieldDef}
 use Rattle.layout.specs.declared.block.Holder.{Holder}
 use Rattle.layout.specs.declared.block.Holder.the-variants.{Record, Struct}
 
@@ -84,3 +88,18 @@ tableAt Struct l h = structAt l h .table
 abbrev pub limitAt : Holder → List ℕ → ℕ → ℕ
 limitAt Record l h = maxBytes
 limitAt Struct l h = structAt l h .size
+
+-- ---- the struct that a field names: where its head stands, the struct, and whether the table has one
+
+abbrev pub headOf : List ℕ → FieldDef → ℕ
+headOf l f = headsFrom Struct l + 48 * f .«def_index»
+
+abbrev pub structOf : List ℕ → FieldDef → StructLayout
+structOf l f = structAt l (headOf l f)
+
+abbrev pub hasStruct : List ℕ → FieldDef → Bool
+hasStruct l f = ltb (f .«def_index») (countOf Struct l)
+
+-- no struct has more fields than its limit
+pub record FewFields (l : List ℕ) : Type 0 where
+  pub few : (k : ℕ) → k < countOf Struct l → length (structAt l (headsFrom Struct l + 48 * k) .table) ≤ 16 * maxStructFields

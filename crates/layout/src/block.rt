@@ -1,7 +1,8 @@
 // Where things stand in a block, of any bytes.
 ghost use mathlib.Core.Path.{_≡_};
-ghost use Prim.Native.Nat.{_+_, _*_, _<_, _≤_};
-ghost use Rattle.layout.specs.Layout.{partAt, recordAt, structAt, headSize, countOf, headsFrom, tableAt, limitAt};
+ghost use Prim.Native.Nat.{_+_, _*_, _/_, _<_, _≤_};
+ghost use Rattle.layout.specs.Layout.{startAt, lengthAt, partAt, recordAt, structAt, headSize, countOf, headsFrom, tableAt, limitAt, hasStruct};
+use field::FieldDef;
 
 // What has a head, and a table of fields.
 pub enum Holder {
@@ -12,7 +13,7 @@ pub enum Holder {
 // Bytes of the block's head, of a record's and of a struct's, and of a field name.
 const HEAD: usize = 8;
 
-const RECORD_HEAD: usize = 72;
+pub const RECORD_HEAD: usize = 72;
 
 pub const STRUCT_HEAD: usize = 48;
 
@@ -70,7 +71,20 @@ pub fn struct_head(l: &[u8], k: u16) -> usize
     heads_from(Holder::Struct, l) + STRUCT_HEAD * lent::wide16(k)
 }
 
+pub fn has_struct(l: &[u8], f: FieldDef) -> bool
+    ensures { λ r. ⌜ r ≡ hasStruct (now (l .entry)) f ⌝ }
+{
+    lent::wide16(f.def_index) < count_of(Holder::Struct, l)
+}
+
 // ---- what a head at h says
+
+pub fn record_rtype(l: &[u8], h: usize) -> u16
+    requires { ⌜ h < 4000000000 ⌝ }
+    ensures { λ r. ⌜ r ≡ recordAt (now (l .entry)) h .rtype ⌝ }
+{
+    lent::u16_at(l, h)
+}
 
 pub fn record_base(l: &[u8], h: usize) -> usize
     requires { ⌜ h < 4000000000 ⌝ }
@@ -87,6 +101,22 @@ pub fn record_hash(l: &[u8], h: usize) -> u64
     let low = h + 8;
     let high = low + 4;
     (lent::u32_at(l, low) + 4294967296 * lent::u32_at(l, high)) as u64
+}
+
+// Where the field names of a record begin, and how many there are.
+pub fn names_from(l: &[u8], h: usize) -> usize
+    requires { ⌜ h < 4000000000 ⌝ }
+    ensures { λ r. ⌜ (r ≡ startAt (now (l .entry)) (h + 24)) × (r < 4294967296) ⌝ }
+{
+    lent::u32_at(l, h + 24)
+}
+
+pub fn names_count(l: &[u8], h: usize) -> usize
+    requires { ⌜ h < 4000000000 ⌝ }
+    ensures { λ r. ⌜ (r ≡ lengthAt (now (l .entry)) (h + 24) / 33) × (r < 4294967296) ⌝ }
+{
+    let at = h + 24;
+    lent::u32_at(l, at + 4) / NAME
 }
 
 pub fn struct_size(l: &[u8], h: usize) -> usize

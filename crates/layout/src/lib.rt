@@ -1,4 +1,5 @@
 // A layout in one block of lent bytes (docs/FORMATS.md).
 pub mod block;
+pub mod find;
 pub mod shape;
 pub mod size;

@@ -1,14 +1,15 @@
 -- Laws of reads. Assumes nothing.
-use mathlib.Core.Path.{_≡_, refl, sym}
+use mathlib.Core.Path.{_≡_, refl, sym, ap, _∙_}
 use mathlib.Core.Bool.{Bool, true, false, cond}
-use mathlib.Core.List.{List, []}
-use Prim.Native.Nat.{ℕ, zero, suc, _+_, _-_, _*_, _^_, _≤_, _<_}
+use mathlib.Core.List.{List, [], _++_}
+use Prim.Native.Nat.{ℕ, zero, suc, _+_, _-_, _*_, _/_, _%_, _^_, _≤_, _<_}
 use native.Mathlib.Nat.{mul-assoc, pow-succ'}
 use native.Mathlib.Omega.{arith}
-use lib.ListN.{length, take, drop, length-take}
+use lib.ListN.{length, take, drop, length-take, length-drop, drop-of-length-le}
+use lib.Seq.{take-all}
 use lib.Dec.{leb}
 use borrow.Author.Tests.{le-leb, lt-leb, leb-true, leb-false}
-use Rattle.lent.specs.Bytes.{byteAt, numberAt, window, hasWindow, partOf}
+use Rattle.lent.specs.Bytes.{byteAt, numberAt, bytesOf, window, hasWindow, partOf}
 
 -- n + m bytes hold the number of the n low ones and, above them, that of the m others
 pub number-add : (s : List ℕ) (at n m : ℕ) → numberAt s at (n + m) ≡ numberAt s at n + 256 ^ n * numberAt s (at + n) m
@@ -22,6 +23,21 @@ number-add s at (suc n) m =
     let g : 256 ^ suc n * numberAt s ((at + 1) + n) m ≡ 256 * (256 ^ n * numberAt s ((at + 1) + n) m) = rw (pow-succ', mul-assoc) in
     let ih = number-add s (at + 1) n m in
     rw (e, f, g) (omega arith)
+
+-- and the bytes of such a number are those of the two
+pub bytes-add : (n m low high : ℕ) → low < 256 ^ n → bytesOf (n + m) (low + 256 ^ n * high) ≡ bytesOf n low ++ bytesOf m high
+bytes-add zero m low high h =
+    let e : 0 + m ≡ m = omega arith in
+    let f : low + 256 ^ 0 * high ≡ high = omega arith in
+    rw (e, f)
+bytes-add (suc n) m low high h =
+    let e : suc n + m ≡ suc (n + m) = omega arith in
+    let p : 256 ^ suc n * high ≡ 256 * (256 ^ n * high) = rw (pow-succ', mul-assoc) in
+    let z : low < 256 * 256 ^ n = rw (pow-succ') at h in
+    let first : (low + 256 * (256 ^ n * high)) % 256 ≡ low % 256 = omega arith in
+    let rest : (low + 256 * (256 ^ n * high)) / 256 ≡ low / 256 + 256 ^ n * high = omega arith in
+    let ih = bytes-add n m (low / 256) high (omega arith) in
+    rw (e, p, first, rest, ih)
 
 -- a window's test without the sum of its start and its size, which could wrap
 pub fits-by-difference : (at n k : ℕ) → n ≤ k → leb at (k - n) ≡ leb (at + n) k
@@ -48,3 +64,19 @@ part-length s at n = go (hasWindow s at n) where
   go : (p : Bool) → length (cond p (window s at n) []) ≤ n
   go true = omega (arith, length-take n (drop at s))
   go false = omega arith
+
+-- a window is the part where it lies inside, what there is of it where it passes the end, and nothing past the end
+pub window-in : (s : List ℕ) (at n : ℕ) → hasWindow s at n ≡ true → partOf s at n ≡ window s at n
+unfolding partOf
+window-in s at n e = rw e
+
+pub window-cut : (s : List ℕ) (at n : ℕ) → length s < at + n → window s at (length s - at) ≡ window s at n
+window-cut s at n h =
+    let z = length-drop at s in
+    take-all (length s - at) (drop at s) (omega arith) ∙ sym (take-all n (drop at s) (omega arith))
+
+pub window-past : (s : List ℕ) (at n : ℕ) → length s ≤ at → [] ≡ window s at n
+window-past s at n h = go n (drop at s) (drop-of-length-le s h) where
+  go : (m : ℕ) (t : List ℕ) → t ≡ [] → [] ≡ take m t
+  go zero t e = refl
+  go (suc m) t e = rw e

@@ -1,11 +1,13 @@
 -- A turn of a loop that scans and counts down what is left. Assumes nothing.
 use mathlib.Core.Path.{_≡_, refl, sym, ap}
-use mathlib.Core.Bool.{Bool, true, false, cond, _&&_, false≢true}
+use mathlib.Core.Bool.{Bool, true, false, cond, _&&_, _||_, false≢true}
 use mathlib.Core.List.{List, [], _∷_}
 use Prim.Native.Nat.{ℕ, zero, suc, _+_, _-_, _*_, _≤_, _<_}
 use native.Mathlib.Nat.{not-suc-le-zero, mul-suc}
+use lib.ListN.{length, take, drop, getD}
+use lib.Seq.{drop-cons, getD-take, length-take-le}
 use native.Mathlib.Omega.{arith}
-use Rattle.lent.specs.Scan.{gather, every, tally}
+use Rattle.lent.specs.Scan.{gather, every, some, first, last, alike, tally}
 
 module _ {A : Type 0} (read : ℕ → A) (step at n : ℕ) where
   -- something is left: the first, and the rest
@@ -32,6 +34,46 @@ module _ {A : Type 0} (read : ℕ → A) (step at n : ℕ) where
     pub ends : n ≡ 0 → true ≡ all
     unfolding every
     ends e = rw (none e) at so
+
+  module _ (test : A → Bool) (any : Bool) (so : some test (gather read step at n) ≡ any) where
+    -- the test holds: that is enough
+    pub finds : 0 < n → test (read at) ≡ true → true ≡ any
+    unfolding some
+    finds h f = rw (turn h, f) at so
+
+    -- it fails: the rest decides
+    pub seeks : 0 < n → test (read at) ≡ false → some test (gather read step (at + step) (n - 1)) ≡ any
+    unfolding some
+    seeks h f = rw (turn h, f) at so
+
+    pub lacks : n ≡ 0 → false ≡ any
+    unfolding some
+    lacks e = rw (none e) at so
+
+  module _ {B : Type 0} (test : A → Bool) (give : A → B) (missing all : B) where
+    module _ (so : first test give missing (gather read step at n) ≡ all) where
+      -- the first is found
+      pub first-here : 0 < n → test (read at) ≡ true → give (read at) ≡ all
+      unfolding first
+      first-here h f = rw (turn h, f) at so
+
+      pub first-later : 0 < n → test (read at) ≡ false → first test give missing (gather read step (at + step) (n - 1)) ≡ all
+      unfolding first
+      first-later h f = rw (turn h, f) at so
+
+      pub first-nowhere : n ≡ 0 → missing ≡ all
+      unfolding first
+      first-nowhere e = rw (none e) at so
+
+    module _ (so : last test give missing (gather read step at n) ≡ all) where
+      -- what was found last so far goes along
+      pub last-turn : 0 < n → last test give (cond (test (read at)) (give (read at)) missing) (gather read step (at + step) (n - 1)) ≡ all
+      unfolding last
+      last-turn h = rw (turn h) at so
+
+      pub last-known : n ≡ 0 → missing ≡ all
+      unfolding last
+      last-known e = rw (none e) at so
 
   module _ (test : A → Bool) (good all : Bool) (so : (good && every test (gather read step at n)) ≡ all) where
     -- no way out: what was found so far goes along
@@ -79,6 +121,51 @@ tally-add test read at (suc n) m =
     let f : at + suc n ≡ (at + 1) + n = omega arith in
     let ih = tally-add test read (at + 1) n m in
     rw (e, f) (omega arith)
+
+-- what is left of a list from k on: the one there, and the rest
+pub next : (s : List ℕ) (k : ℕ) → k < length s → drop k s ≡ getD s k 0 ∷ drop (k + 1) s
+next s k h = let e : k + 1 ≡ suc k = omega arith in rw e (drop-cons s k 0 h)
+
+-- and of the first n
+pub entry : (o : List ℕ) (n k : ℕ) → n ≤ length o → k < n → drop k (take n o) ≡ getD o k 0 ∷ drop (k + 1) (take n o)
+entry o n k fits h =
+    let i : k < length (take n o) = omega (arith, length-take-le n o fits) in
+    rw (← getD-take n o k 0 h) (next (take n o) k i)
+
+-- two lists, pair by pair
+module _ {A B : Type 0} (test : A → B → Bool) (all : Bool) where
+  module _ (xs : List A) (ys : List B) (so : alike test xs ys ≡ all) where
+    module _ (x : A) (xs′ : List A) (y : B) (ys′ : List B) (ex : xs ≡ x ∷ xs′) (ey : ys ≡ y ∷ ys′) where
+      pair-turn : (test x y && alike test xs′ ys′) ≡ all
+      unfolding alike
+      pair-turn = rw (ex, ey) at so
+
+      pub pair-stops : test x y ≡ false → false ≡ all
+      pair-stops f = rw f at pair-turn
+
+      pub pair-goes : test x y ≡ true → alike test xs′ ys′ ≡ all
+      pair-goes f = rw f at pair-turn
+
+    pub pairs-end : xs ≡ [] → ys ≡ [] → true ≡ all
+    unfolding alike
+    pairs-end ex ey = rw (ex, ey) at so
+
+and-false : (a : Bool) → (a && false) ≡ false
+and-false true = refl
+and-false false = refl
+
+pub and-true : (a : Bool) → (a && true) ≡ a
+and-true true = refl
+and-true false = refl
+
+-- lists of two lengths are not alike
+pub unlike : {A B : Type 0} (test : A → B → Bool) (xs : List A) (ys : List B) → (length xs ≡ length ys → ⊥) → false ≡ alike test xs ys
+unfolding alike
+unlike test [] [] h = absurd (h refl)
+unlike test [] (y ∷ ys) h = refl
+unlike test (x ∷ xs) [] h = refl
+unlike test (x ∷ xs) (y ∷ ys) h =
+    rw (← unlike test xs ys (λ e. h (ap suc e))) (sym (and-false (test x y)))
 
 -- both of two tests pass
 pub both : (a b : Bool) → (a && b) ≡ true → (a ≡ true) × (b ≡ true)

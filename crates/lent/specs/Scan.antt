@@ -1,6 +1,6 @@
 -- What a loop over lent bytes finds: a list of what is read at places that lie evenly, and questions to such a list.
 use Prim.Native.Nat.{ℕ, zero, suc, _+_}
-use mathlib.Core.Bool.{Bool, true, cond, _&&_}
+use mathlib.Core.Bool.{Bool, true, false, cond, _&&_, _||_}
 use mathlib.Core.List.{List, [], _∷_}
 
 module _ {A : Type 0} where
@@ -14,10 +14,33 @@ module _ {A : Type 0} where
   every test [] = true
   every test (x ∷ xs) = test x && every test xs
 
+  -- one of them passes it
+  unfoldable pub some : (A → Bool) → List A → Bool
+  some test [] = false
+  some test (x ∷ xs) = test x || some test xs
+
   -- how many pass it
   unfoldable pub tally : (A → Bool) → List A → ℕ
   tally test [] = 0
   tally test (x ∷ xs) = cond (test x) 1 0 + tally test xs
+
+module _ {A B : Type 0} where
+  -- what the first that passes the test gives, and what there is where none passes
+  unfoldable pub first : (A → Bool) → (A → B) → B → List A → B
+  first test give none [] = none
+  first test give none (x ∷ xs) = cond (test x) (give x) (first test give none xs)
+
+  -- what the last gives
+  unfoldable pub last : (A → Bool) → (A → B) → B → List A → B
+  last test give none [] = none
+  last test give none (x ∷ xs) = last test give (cond (test x) (give x) none) xs
+
+  -- as many of the one as of the other, and the test passes pair by pair
+  unfoldable pub alike : (A → B → Bool) → List A → List B → Bool
+  alike test [] [] = true
+  alike test [] (y ∷ ys) = false
+  alike test (x ∷ xs) [] = false
+  alike test (x ∷ xs) (y ∷ ys) = test x y && alike test xs ys
 
 -- the places themselves
 abbrev pub places : ℕ → ℕ → ℕ → List ℕ

@@ -1,10 +1,14 @@
 // Reads of lent bytes that need no promise of the caller: past the end there is a zero, and a part that does not lie
 // inside is empty.
+pub mod store;
+
 ghost use mathlib.Core.Path.{_≡_};
 ghost use Prim.Native.Nat.{_+_, _*_, _<_, _≤_, min, max};
 ghost use lib.ListN.{length};
+ghost use lib.Dec.{eqb};
 ghost use mathlib.Core.Bool.{cond};
-ghost use Rattle.lent.specs.Bytes.{byteAt, numberAt, hasWindow, partOf};
+ghost use Rattle.lent.specs.Bytes.{byteAt, numberAt, window, hasWindow, partOf};
+ghost use Rattle.lent.specs.Scan.{alike};
 
 pub fn byte_at(s: &[u8], at: usize) -> u8
     ensures { λ r. ⌜ r ≡ byteAt (now (s .entry)) at ⌝ }
@@ -77,6 +81,37 @@ pub fn part(s: &[u8], at: usize, n: usize) -> &[u8]
         return &s[at..end];
     }
     &s[0..0]
+}
+
+// The n bytes from `at` on, or as many of them as there are.
+pub fn window(s: &[u8], at: usize, n: usize) -> &[u8]
+    ensures { λ r. ⌜ now r ≡ window (now (s .entry)) at n ⌝ }
+{
+    if has_window(s, at, n) {
+        return part(s, at, n);
+    }
+    let end = s.len();
+    if at < end {
+        return &s[at..end];
+    }
+    &s[0..0]
+}
+
+// Are they the same bytes?
+pub fn same(a: &[u8], b: &[u8]) -> bool
+    ensures { λ r. ⌜ r ≡ alike eqb (now (a .entry)) (now (b .entry)) ⌝ }
+{
+    if a.len() != b.len() {
+        return false;
+    }
+    let mut k = 0;
+    while k < a.len() {
+        if a[k] != b[k] {
+            return false;
+        }
+        k += 1;
+    }
+    true
 }
 
 pub fn greater(a: usize, b: usize) -> usize

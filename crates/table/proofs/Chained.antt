@@ -13,7 +13,7 @@ use Rattle.lent.specs.Scan.{every}
 use Rattle.lent.proofs.Scan.{both}
 use Rattle.field.specs.Field.{endOf}
 use Rattle.field.specs.declared.FieldDef.{FieldDef}
-use Rattle.order.specs.Order.{insert, byOffset}
+use Rattle.order.specs.Order.{insertBy, sortBy, offsetOf, byOffset}
 use Rattle.table.specs.Table.{shareByte, clearOf, apart}
 use Rattle.table.specs.Parts.{chain}
 
@@ -50,16 +50,16 @@ shift true b c = refl
 shift false true c = refl
 shift false false c = refl
 
-every-insert : (p : FieldDef → Bool) (f : FieldDef) (gs : List FieldDef) → every p (insert f gs) ≡ (p f && every p gs)
-unfolding every insert
+every-insert : (p : FieldDef → Bool) (f : FieldDef) (gs : List FieldDef) → every p (insertBy offsetOf f gs) ≡ (p f && every p gs)
+unfolding every insertBy
 every-insert p f [] = refl
 every-insert p f (g ∷ gs) = go (every-insert p f gs) (leb (f .offset) (g .offset)) where
-  go : every p (insert f gs) ≡ (p f && every p gs) → (t : Bool) → every p (cond t (f ∷ g ∷ gs) (g ∷ insert f gs)) ≡ (p f && (p g && every p gs))
+  go : every p (insertBy offsetOf f gs) ≡ (p f && every p gs) → (t : Bool) → every p (cond t (f ∷ g ∷ gs) (g ∷ insertBy offsetOf f gs)) ≡ (p f && (p g && every p gs))
   go ih true = refl
   go ih false = rw ih (shift (p g) (p f) (every p gs))
 
 every-sorted : (p : FieldDef → Bool) (fs : List FieldDef) → every p (byOffset fs) ≡ every p fs
-unfolding every byOffset
+unfolding every sortBy
 every-sorted p [] = refl
 every-sorted p (f ∷ fs) = every-insert p f (byOffset fs) ∙ ap (λ (b : Bool). p f && b) (every-sorted p fs)
 
@@ -69,19 +69,19 @@ clear-sym f g =
     let d : min (endOf f) (endOf g) ≡ min (endOf g) (endOf f) = omega arith in
     rw (e, d)
 
-apart-insert : (f : FieldDef) (gs : List FieldDef) → apart (insert f gs) ≡ (every (clearOf f) gs && apart gs)
-unfolding every insert apart
+apart-insert : (f : FieldDef) (gs : List FieldDef) → apart (insertBy offsetOf f gs) ≡ (every (clearOf f) gs && apart gs)
+unfolding every insertBy apart
 apart-insert f [] = refl
 apart-insert f (g ∷ gs) = go (apart-insert f gs) (leb (f .offset) (g .offset)) where
-  go : apart (insert f gs) ≡ (every (clearOf f) gs && apart gs)
-      → (t : Bool) → apart (cond t (f ∷ g ∷ gs) (g ∷ insert f gs)) ≡ ((clearOf f g && every (clearOf f) gs) && (every (clearOf g) gs && apart gs))
+  go : apart (insertBy offsetOf f gs) ≡ (every (clearOf f) gs && apart gs)
+      → (t : Bool) → apart (cond t (f ∷ g ∷ gs) (g ∷ insertBy offsetOf f gs)) ≡ ((clearOf f g && every (clearOf f) gs) && (every (clearOf g) gs && apart gs))
   go ih true = refl
   go ih false =
       rw (every-insert (clearOf g) f gs, ih, clear-sym g f)
       (swap (clearOf f g) (every (clearOf g) gs) (every (clearOf f) gs) (apart gs))
 
 apart-sorted : (fs : List FieldDef) → apart (byOffset fs) ≡ apart fs
-unfolding byOffset apart
+unfolding sortBy apart
 apart-sorted [] = refl
 apart-sorted (f ∷ fs) = apart-insert f (byOffset fs) ∙ rw (every-sorted (clearOf f) fs, apart-sorted fs)
 

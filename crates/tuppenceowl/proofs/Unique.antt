@@ -5,6 +5,8 @@ use Prim.Native.Nat.{ℕ}
 use Rattle.admission.specs.Admission.{admitCatalogue, admitOf, statusOf}
 use Rattle.admission.specs.declared.Admitted.{Admitted}
 use Rattle.tuppenceowl.specs.Answers.{sizedOf, windowedOf, foundOf, summedOf, bootedOf, summedStatus, hashOr, visitsOr}
+use Rattle.tuppenceowl.specs.Comparing.{judgedOf, judgedRtype, judgedStatus, foundById, foundByName}
+use Rattle.tuppenceowl.specs.declared.comparing.Judged.{Judged}
 use Rattle.crc64.specs.Avro.{fingerprint}
 use Rattle.limits.specs.Limits.{defaultBudget}
 use Rattle.tuppenceowl.specs.declared.Sized.{Sized}
@@ -73,3 +75,25 @@ module _ (promised : Outcome) where
   cursor-call-unique r s t n u m p q =
       let z : outcome r t n ≡ outcome s u m = equal p q in
       (ap (λ (o : Outcome). o .answer) z, ap (λ (o : Outcome). o .table) z, ap (λ (o : Outcome). o .names) z)
+
+-- ---- the verdict and the lookups
+
+pub verdict-unique : (cat stream : List ℕ) (k : ℕ) (compiled : List ℕ) (r s : Judged) → r ≡ judgedOf cat stream k compiled → s ≡ judgedOf cat stream k compiled → r ≡ s
+verdict-unique cat stream k compiled r s = equal
+
+pub verdict-of-unique : (cat stream : List ℕ) (rtype : ℕ) (compiled : List ℕ) (r s : Judged) → r ≡ judgedRtype cat stream rtype compiled → s ≡ judgedRtype cat stream rtype compiled → r ≡ s
+verdict-of-unique cat stream rtype compiled r s = equal
+
+pub field-by-id-unique : (cat layout : List ℕ) (rtype id : ℕ) (r s : Found) → r ≡ foundById cat layout rtype id → s ≡ foundById cat layout rtype id → r ≡ s
+field-by-id-unique cat layout rtype id r s = equal
+
+pub field-by-name-unique : (cat layout : List ℕ) (rtype : ℕ) (name : List ℕ) (r s : Found) → r ≡ foundByName cat layout rtype name → s ≡ foundByName cat layout rtype name → r ≡ s
+field-by-name-unique cat layout rtype name r s = equal
+
+pub owl-verdict-unique : (cat stream : List ℕ) (k : ℕ) (compiled : List ℕ) (r s : ℕ)
+    → r ≡ judgedStatus (judgedOf cat stream k compiled) → s ≡ judgedStatus (judgedOf cat stream k compiled) → r ≡ s
+owl-verdict-unique cat stream k compiled r s = equal
+
+pub owl-verdict-of-unique : (cat stream : List ℕ) (rtype : ℕ) (compiled : List ℕ) (r s : ℕ)
+    → r ≡ judgedStatus (judgedRtype cat stream rtype compiled) → s ≡ judgedStatus (judgedRtype cat stream rtype compiled) → r ≡ s
+owl-verdict-of-unique cat stream rtype compiled r s = equal

@@ -10,3 +10,12 @@ pub fn window(bytes: &[u8], offset: u16, size: u16) -> Option<(usize, usize)> {
     let start = found.as_ptr() as usize - bytes.as_ptr() as usize;
     Some((start, start + found.len()))
 }
+
+/// Of one record of a stream's layout.
+pub fn verdict(
+    stream: &super::StreamLayout,
+    record: &super::RecordLayout,
+    compiled: &super::StreamLayout,
+) -> super::Verdict {
+    super::compare::verdict(stream, record, compiled)
+}

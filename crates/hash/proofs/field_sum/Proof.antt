@@ -1,56 +1,94 @@
--- Number by number; the scale goes by way of its bits and back.
-use mathlib.Core.Path.{_≡_, _∙_}
-use native.Mathlib.Omega.{arith}
-use mir.ValLaws.{toZ-ofZ}
+-- Two numbers; the scale goes by way of its bits and back.
+use borrow.Author.Needs.{needs}
+use mathlib.Core.Path.{_∙_, _≡_}
 use mir.Syntax.{w8}
 use mir.Val.{SFits}
-use borrow.Author.Needs.{needs}
-use Rattle.hash.proofs.Fed.{fed-field}
-use Rattle.lent.proofs.Scan.{small}
+use mir.ValLaws.{toZ-ofZ}
+use native.Mathlib.Omega.{arith}
 use Rattle.field.specs.Field.{byteOf}
+use Rattle.hash.proofs.Fed.{fed-field}
 use Rattle.hash.proofs.field_sum.Statement.{statement}
 use Rattle.hash.proofs.field_sum.Tie as tie
 
-step-u16-requires : tie.Need-step-u16-requires
-step-u16-requires c κs = search needs
+cast-kind : tie.Need-cast-kind
+cast-kind c = search needs
 
-step-u16-requires-2 : tie.Need-step-u16-requires-2
-step-u16-requires-2 c κs = search needs
+cast-kind-2 : tie.Need-cast-kind-2
+cast-kind-2 c = search needs
 
-step-u16-requires-3 : tie.Need-step-u16-requires-3
-step-u16-requires-3 c κs = search needs
+mul-kind : tie.Need-mul-kind
+mul-kind c = search needs
 
-step-u8-requires : tie.Need-step-u8-requires
-step-u8-requires c κs = search needs
+add-kind : tie.Need-add-kind
+add-kind c = search needs
 
-step-u8-requires-2 : tie.Need-step-u8-requires-2
-step-u8-requires-2 c κs = search needs
+cast-place : tie.Need-cast-place
+cast-place c = search needs
+
+cast-place-2 : tie.Need-cast-place-2
+cast-place-2 c = search needs
+
+mul-place : tie.Need-mul-place
+mul-place c = search needs
+
+add-place : tie.Need-add-place
+add-place c = search needs
+
+mul-place-2 : tie.Need-mul-place-2
+mul-place-2 c = search needs
+
+add-place-2 : tie.Need-add-place-2
+add-place-2 c = search needs
+
+cast-step-number : tie.Need-cast-step-number
+cast-step-number c = search needs
+
+mul-step-number : tie.Need-mul-step-number
+mul-step-number c = search needs
+
+add-step-number : tie.Need-add-step-number
+add-step-number c = search needs
+
+step-number-requires : tie.Need-step-number-requires
+step-number-requires c κs = search needs
 
 scale-byte-requires : tie.Need-scale-byte-requires
 scale-byte-requires c κs = search needs
 
-step-u8-requires-3 : tie.Need-step-u8-requires-3
-step-u8-requires-3 c κs = search needs
+cast-step-number-2 : tie.Need-cast-step-number-2
+cast-step-number-2 c = search needs
+
+step-number-requires-2 : tie.Need-step-number-requires-2
+step-number-requires-2 c κs = search needs
 
 returns : tie.Need-returns
 returns c =
-    let a = c .before .before .before .before .before .before .before .before .args in
-    let small : SFits w8 (a .f .scale) = record { sfits = omega arith } in
-    let same : c .before .scale-byte .result ≡ byteOf (a .f .scale) = c .before .scale-byte .ensures ∙ rw (toZ-ofZ w8 (a .f .scale) small) in
+    let a = (c .before .before .before .before .before .before .before .before .before .args) in
+    let fits : SFits w8 (a .f .scale) = record { sfits = omega arith } in
+    let same : c .before .scale-byte .result ≡ byteOf (a .f .scale) = c .before .scale-byte .ensures ∙ rw (toZ-ofZ w8 (a .f .scale) fits) in
     fed-field (a .f)
     (record { id = omega arith; offset = omega arith; size = omega arith; type = omega arith; flags = omega arith; scale = omega arith })
-    (a .start) _ _ _ _ _ _ (c .before .before .before .before .before .before .before .step-u16 .ensures) (c .before .before .before .before .before .before .step-u162 .ensures) (c .before .before .before .before .before .step-u163 .ensures) (c .before .before .before .before .step-u8 .ensures) (c .before .before .before .step-u82 .ensures)
-    (rw (← same) (c .step-u83 .ensures))
+    (a .start) _ _ (c .before .before .before .step-number .ensures) (rw (← same) (c .step-number2 .ensures))
 
 pub field-sum-spec : {M : Type 1} → statement M
 field-sum-spec =
     tie.close
     (tie.spec
-    step-u16-requires
-    step-u16-requires-2
-    step-u16-requires-3
-    step-u8-requires
-    step-u8-requires-2
+    cast-kind
+    cast-kind-2
+    mul-kind
+    add-kind
+    cast-place
+    cast-place-2
+    mul-place
+    add-place
+    mul-place-2
+    add-place-2
+    cast-step-number
+    mul-step-number
+    add-step-number
+    step-number-requires
     scale-byte-requires
-    step-u8-requires-3
+    cast-step-number-2
+    step-number-requires-2
     returns)

@@ -7,9 +7,10 @@ use Rattle.layout.specs.declared.block.Holder.the-variants.{Record}
 use borrow.Author.Needs.{needs}
 use Rattle.tuppenceowl.specs.Answers.{summedOf}
 use Rattle.layout.specs.Layout.{countOf}
-use Rattle.layout.proofs.Shapes.{few-in-record}
-use Rattle.admission.proofs.When.{admitted}
-use Rattle.hash.proofs.Rooms.{shaped-few}
+use Rattle.layout.proofs.Shapes.{few-in-record, shaped-few}
+use Rattle.admission.proofs.When.{admitted, front}
+use mathlib.Core.List.{[], _∷_}
+use Rattle.layout.specs.Shape.{shapeOk}
 use Rattle.hash.proofs.Walks.{taken}
 use Rattle.tuppenceowl.proofs.hashing.layout_hash_within.Statement.{statement}
 use Rattle.tuppenceowl.proofs.hashing.layout_hash_within.Tie as tie
@@ -35,10 +36,11 @@ table-at-requires c κs = search needs
 hash-record-requires : tie.Need-hash-record-requires
 hash-record-requires c κs =
     let l = c .before .before .before .before .before .before .before .before .before .args .layout .now in
-    let fine = admitted (c .before .before .before .before .before .before .before .before .before .args .cat .now) l (sym (c .before .before .before .before .before .before .admit .ensures) ∙ c .before .before .before .before .enum-told .given .1) in
+    let fine = admitted (c .before .before .before .before .before .before .before .before .before .args .cat .now) (l ∷ []) (sym (c .before .before .before .before .before .before .admit .ensures) ∙ c .before .before .before .before .enum-told .given .1) in
+    let shaped = front shapeOk l [] (fine .shaped) in
     let inside : c .before .before .before .before .before .before .before .before .before .args .k < countOf Record l = omega (arith, c .before .before .before .count-of .ensures .0, c .before .before .if1 .taken) in (
-      shaped-few l (fine .shaped),
-      rw (c .table-at .ensures, c .before .record-head .ensures .0) (few-in-record l (c .before .before .before .before .before .before .before .before .before .args .k) (fine .shaped) inside),
+      shaped-few l shaped,
+      rw (c .table-at .ensures, c .before .record-head .ensures .0) (few-in-record l (c .before .before .before .before .before .before .before .before .before .args .k) shaped inside),
     )
 
 as-summed-requires : tie.Need-as-summed-requires

@@ -1,0 +1,2 @@
+pub mod Compare
+pub mod Parts

@@ -1,0 +1,183 @@
+// dbn's compare.rs: may a stream's record be read as the compiled one?
+pub mod answer;
+
+ghost use mathlib.Core.Path.{_≡_};
+ghost use Prim.Native.Nat.{_+_, _*_, _<_, _≤_};
+ghost use lib.Dec.{eqb};
+ghost use lib.ListN.{length};
+ghost use Rattle.field.specs.Field.{fieldAt};
+ghost use Rattle.layout.specs.Layout.{recordAt, structAt, FewFields};
+ghost use Rattle.compare.specs.Compare.{eqExceptDefIndex, structEq, namedEq, fieldEq, baseCompatible, verdictOf};
+ghost use Rattle.compare.specs.Parts.{Skips};
+use crate::answer::Verdict;
+use field::FieldDef;
+use layout::block;
+use layout::block::Holder;
+use layout::find;
+use layout::find::Place;
+
+fn eq_except_def_index(a: FieldDef, b: FieldDef) -> bool
+    ensures { λ r. ⌜ r ≡ eqExceptDefIndex a b ⌝ }
+{
+    (a.field_id == b.field_id)
+        & ((a.offset == b.offset)
+            & ((a.size == b.size)
+                & ((a.type_id == b.type_id) & ((a.flags == b.flags) & (a.scale == b.scale)))))
+}
+
+// The structs whose heads begin at h of the stream and at g of the compiled layout.
+fn struct_eq(s: &[u8], h: usize, c: &[u8], g: usize) -> bool
+    requires { ⌜ (h < 4000000000) × (g < 4000000000) × (length (structAt (now s) h .table) ≤ 512) × (length (structAt (now c) g .table) ≤ 512) ⌝ }
+    ensures { λ r. ⌜ r ≡ structEq (structAt (now (s .entry)) h) (structAt (now (c .entry)) g) ⌝ }
+{
+    if block::struct_size(s, h) != block::struct_size(c, g) {
+        return false;
+    }
+    let haves = block::table_at(Holder::Struct, s, h);
+    let wants = block::table_at(Holder::Struct, c, g);
+    let n = haves.len() / field::SIZE;
+    if n != wants.len() / field::SIZE {
+        return false;
+    }
+    let mut a = [0u16; limits::MAX_STRUCT_FIELDS];
+    order::by_offset(haves, n, &mut a);
+    let mut b = [0u16; limits::MAX_STRUCT_FIELDS];
+    order::by_offset(wants, n, &mut b);
+    let mut k = 0;
+    while k < n {
+        let have = field::field_at(haves, lent::wide16(a[k]));
+        let want = field::field_at(wants, lent::wide16(b[k]));
+        if !eq_except_def_index(have, want) {
+            return false;
+        }
+        k += 1;
+    }
+    true
+}
+
+fn named_eq(s: &[u8], f: FieldDef, c: &[u8], g: FieldDef) -> bool
+    requires { ⌜ FewFields (now s) × FewFields (now c) ⌝ }
+    ensures { λ r. ⌜ r ≡ namedEq (now (s .entry)) f (now (c .entry)) g ⌝ }
+{
+    if !block::has_struct(s, f) {
+        return false;
+    }
+    if !block::has_struct(c, g) {
+        return false;
+    }
+    struct_eq(
+        s,
+        block::struct_head(s, f.def_index),
+        c,
+        block::struct_head(c, g.def_index),
+    )
+}
+
+fn field_eq(cat: &[u8], s: &[u8], f: FieldDef, c: &[u8], g: FieldDef) -> bool
+    requires { ⌜ FewFields (now s) × FewFields (now c) ⌝ }
+    ensures { λ r. ⌜ r ≡ fieldEq (now (cat .entry)) (now (s .entry)) f (now (c .entry)) g ⌝ }
+{
+    if !eq_except_def_index(f, g) {
+        return false;
+    }
+    if !field::is_struct(cat, f) {
+        return true;
+    }
+    named_eq(s, f, c, g)
+}
+
+// The stream's field at a place of its table: a field of another id costs one read.
+fn row_eq(cat: &[u8], s: &[u8], haves: &[u8], at: usize, c: &[u8], want: FieldDef) -> bool
+    requires { ⌜ FewFields (now s) × FewFields (now c) × (at + 16 ≤ length (now haves)) ⌝ }
+    ensures { λ r. ⌜ r ≡ fieldEq (now (cat .entry)) (now (s .entry)) (fieldAt (now (haves .entry)) at) (now (c .entry)) want ⌝ }
+{
+    if lent::u16_in(haves, at) != want.field_id {
+        return false;
+    }
+    field_eq(cat, s, field::field_in(haves, at), c, want)
+}
+
+fn is_id(t: &[u8], at: usize, id: u16) -> bool
+    requires { ⌜ at + 2 ≤ length (now t) ⌝ }
+    ensures { λ r. ⌜ r ≡ eqb (fieldAt (now (t .entry)) at .«field_id») id ⌝ }
+{
+    lent::u16_in(t, at) == id
+}
+
+// How many fields of other ids stand in front, but for the last few: four in a turn.
+fn skipped(t: &[u8], id: u16) -> usize
+    ensures { λ r. ⌜ Skips (now (t .entry)) id r ⌝ }
+{
+    let n = t.len() / field::SIZE;
+    let mut k = 0;
+    while k + 4 <= n {
+        let at = field::SIZE * k;
+        if is_id(t, at, id) {
+            return k;
+        }
+        if is_id(t, at + 16, id) {
+            return k + 1;
+        }
+        if is_id(t, at + 32, id) {
+            return k + 2;
+        }
+        if is_id(t, at + 48, id) {
+            return k + 3;
+        }
+        k += 4;
+    }
+    k
+}
+
+// Left by label from the inner scan as soon as a field has its equal.
+fn is_base_compatible(cat: &[u8], s: &[u8], h: usize, c: &[u8], g: usize) -> bool
+    requires { ⌜ FewFields (now s) × FewFields (now c) × (h < 4000000000) × (g < 4000000000) ⌝ }
+    ensures { λ r. ⌜ r ≡ baseCompatible (now (cat .entry)) (now (s .entry)) (recordAt (now (s .entry)) h) (now (c .entry)) (recordAt (now (c .entry)) g) ⌝ }
+{
+    if block::record_base(s, h) < block::record_base(c, g) {
+        return false;
+    }
+    let haves = block::table_at(Holder::Record, s, h);
+    let wants = block::table_at(Holder::Record, c, g);
+    let mut at = 0;
+    let mut left = wants.len() / field::SIZE;
+    'next: while left != 0 {
+        let want = field::field_in(wants, at);
+        at += field::SIZE;
+        left -= 1;
+        if field::is_padding(cat, want) {
+            continue 'next;
+        }
+        let front = skipped(haves, want.field_id);
+        let mut from = field::SIZE * front;
+        let mut rest = haves.len() / field::SIZE - front;
+        while rest != 0 {
+            if row_eq(cat, s, haves, from, c, want) {
+                continue 'next;
+            }
+            from += field::SIZE;
+            rest -= 1;
+        }
+        return false;
+    }
+    true
+}
+
+// Of the stream's record whose head begins at h.
+pub fn verdict(cat: &[u8], s: &[u8], h: usize, c: &[u8]) -> Verdict
+    requires { ⌜ FewFields (now s) × FewFields (now c) × (h < 4000000000) ⌝ }
+    ensures { λ r. ⌜ r ≡ verdictOf (now (cat .entry)) (now (s .entry)) h (now (c .entry)) ⌝ }
+{
+    match find::first_of(c, block::record_rtype(s, h)) {
+        Place::Nowhere => Verdict::Dynamic,
+        Place::At(g) => {
+            if block::record_hash(s, h) == block::record_hash(c, g) {
+                return Verdict::Compiled;
+            }
+            if is_base_compatible(cat, s, h, c, g) {
+                return Verdict::Compiled;
+            }
+            Verdict::Dynamic
+        }
+    }
+}

@@ -1,0 +1,30 @@
+// Stores of bytes: a run copied from one place to another, and the bytes of a number.
+ghost use mathlib.Core.Path.{_≡_};
+ghost use Prim.Native.Nat.{_+_, _/_, _%_, _≤_};
+ghost use lib.ListN.{length};
+ghost use lib.Seq.{sets};
+ghost use Rattle.lent.specs.Bytes.{window};
+
+pub fn low(x: u16) -> u8
+    ensures { λ r. ⌜ r ≡ x % 256 ⌝ }
+{
+    (x % 256) as u8
+}
+
+pub fn high(x: u16) -> u8
+    ensures { λ r. ⌜ r ≡ x / 256 % 256 ⌝ }
+{
+    (x / 256) as u8
+}
+
+// n bytes of s from `from` on, stored from `to` on.
+pub fn copy(s: &[u8], from: usize, d: &mut [u8], to: usize, n: usize)
+    requires { ⌜ (from + n ≤ length (now s)) × (to + n ≤ length (now d)) ⌝ }
+    ensures { λ r. ⌜ now (d .exit) ≡ sets (now (d .entry)) to (window (now (s .entry)) from n) ⌝ }
+{
+    let mut i = 0;
+    while i < n {
+        d[to + i] = s[from + i];
+        i += 1;
+    }
+}

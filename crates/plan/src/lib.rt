@@ -1,0 +1,2 @@
+// UpgradePlan of dbn's upgrade.rs: which bytes of a record go where.
+pub mod rule;

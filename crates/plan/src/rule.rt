@@ -1,0 +1,153 @@
+// op_for of dbn's upgrade.rs: what a source field brings to a target field of its id.
+ghost use mathlib.Core.Path.{_≡_};
+ghost use Prim.Native.Nat.{_<_};
+ghost use Rattle.lent.specs.Scan.{first};
+ghost use Rattle.field.specs.Field.{fieldsOf};
+ghost use Rattle.step.specs.Step.{copy, int};
+ghost use Rattle.plan.specs.Rule.{counts, sameScale, sameArrayness, sameKind, apart, isString, isSigned, sameSign, stepFor, isMarked, wantAt, sameId, stepOf};
+use field::FieldDef;
+use step::Op;
+use step::Step;
+
+// A target field is carried by a step, or has its default.
+pub enum Carried {
+    By(Step),
+    Default,
+}
+
+pub fn counts(cat: &[u8], f: FieldDef) -> bool
+    ensures { λ r. ⌜ r ≡ counts (now (cat .entry)) f ⌝ }
+{
+    !field::is_padding(cat, f) & !(f.field_id == catalogue::header_id(cat))
+}
+
+fn same_arrayness(cat: &[u8], have: FieldDef, want: FieldDef) -> bool
+    ensures { λ r. ⌜ r ≡ sameArrayness (now (cat .entry)) have want ⌝ }
+{
+    if field::is_array(cat, have) {
+        return field::is_array(cat, want);
+    }
+    !field::is_array(cat, want)
+}
+
+fn same_scale(have: FieldDef, want: FieldDef) -> bool
+    ensures { λ r. ⌜ r ≡ sameScale have want ⌝ }
+{
+    have.scale == want.scale
+}
+
+fn same_kind(cat: &[u8], have: FieldDef, want: FieldDef) -> bool
+    ensures { λ r. ⌜ r ≡ sameKind (now (cat .entry)) have want ⌝ }
+{
+    (have.size == want.size)
+        & ((have.type_id == want.type_id)
+            & (same_scale(have, want) & same_arrayness(cat, have, want)))
+}
+
+fn apart(cat: &[u8], have: FieldDef, want: FieldDef) -> bool
+    ensures { λ r. ⌜ r ≡ apart (now (cat .entry)) have want ⌝ }
+{
+    !same_scale(have, want) | (field::is_array(cat, have) | field::is_array(cat, want))
+}
+
+fn is_string(cat: &[u8], f: FieldDef) -> bool
+    ensures { λ r. ⌜ r ≡ isString (now (cat .entry)) f ⌝ }
+{
+    catalogue::class_of(cat, f.type_id) == catalogue::STRING
+}
+
+fn is_signed(cat: &[u8], f: FieldDef) -> bool
+    ensures { λ r. ⌜ r ≡ isSigned (now (cat .entry)) f ⌝ }
+{
+    catalogue::class_of(cat, f.type_id) == catalogue::SIGNED
+}
+
+fn same_sign(cat: &[u8], have: FieldDef, want: FieldDef) -> bool
+    ensures { λ r. ⌜ r ≡ sameSign (now (cat .entry)) have want ⌝ }
+{
+    let same = catalogue::class_of(cat, have.type_id) == catalogue::class_of(cat, want.type_id);
+    field::is_integer(cat, have) & same
+}
+
+fn copy(have: FieldDef, want: FieldDef, size: u16) -> Carried
+    ensures { λ r. ⌜ r ≡ Carried.By (copy (have .offset) (want .offset) size) ⌝ }
+{
+    Carried::By(Step {
+        op: Op::Copy {
+            src_offset: have.offset,
+            dst_offset: want.offset,
+            size: size,
+        },
+    })
+}
+
+fn int(cat: &[u8], have: FieldDef, want: FieldDef, marked: bool) -> Carried
+    ensures { λ r. ⌜ r ≡ Carried.By (int (have .offset) (want .offset) (have .size) (want .size) (isSigned (now (cat .entry)) have) marked) ⌝ }
+{
+    Carried::By(Step {
+        op: Op::Int {
+            src_offset: have.offset,
+            dst_offset: want.offset,
+            src_size: have.size,
+            dst_size: want.size,
+            signed: is_signed(cat, have),
+            has_undef_max: marked,
+        },
+    })
+}
+
+pub fn op_for(cat: &[u8], have: FieldDef, want: FieldDef, marked: bool) -> Carried
+    ensures { λ r. ⌜ r ≡ stepFor (now (cat .entry)) have want marked ⌝ }
+{
+    if same_kind(cat, have, want) {
+        return copy(have, want, want.size);
+    }
+    if apart(cat, have, want) {
+        return Carried::Default;
+    }
+    if is_string(cat, have) & is_string(cat, want) {
+        if have.size <= want.size {
+            return copy(have, want, have.size);
+        }
+        return Carried::Default;
+    }
+    if same_sign(cat, have, want) & ((have.size < want.size) | marked) {
+        return int(cat, have, want, marked);
+    }
+    Carried::Default
+}
+
+fn from_first(cat: &[u8], src: &[u8], want: FieldDef, marked: bool) -> Carried
+    ensures { λ r. ⌜ r ≡ first (sameId want) (λ have. stepFor (now (cat .entry)) have want marked) Carried.Default (fieldsOf (now (src .entry))) ⌝ }
+{
+    let mut at = 0;
+    let mut left = src.len() / field::SIZE;
+    while left != 0 {
+        if lent::u16_in(src, at) == want.field_id {
+            return op_for(cat, field::field_in(src, at), want, marked);
+        }
+        at += field::SIZE;
+        left -= 1;
+    }
+    Carried::Default
+}
+
+// Marks are a byte a field; there is none past the end.
+pub fn is_marked(cat: &[u8], marks: &[u8], k: usize, f: FieldDef) -> bool
+    ensures { λ r. ⌜ r ≡ isMarked (now (cat .entry)) (now (marks .entry)) k f ⌝ }
+{
+    !(lent::byte_at(marks, k) == 0) & field::is_plain_integer(cat, f)
+}
+
+// Of the target field at a place of its table.
+pub fn step_of(cat: &[u8], src: &[u8], dst: &[u8], marks: &[u8], at: usize) -> Carried
+    requires { ⌜ at < 65536 ⌝ }
+    ensures { λ r. ⌜ r ≡ stepOf (now (cat .entry)) (fieldsOf (now (src .entry))) (wantAt (now (cat .entry)) (now (marks .entry)) (now (dst .entry)) at) ⌝ }
+{
+    let want = field::field_at(dst, at);
+    if !counts(cat, want) {
+        return Carried::Default;
+    }
+    let marked = is_marked(cat, marks, at / field::SIZE, want);
+    from_first(cat, src, want, marked)
+}

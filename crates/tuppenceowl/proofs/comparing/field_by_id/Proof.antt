@@ -1,0 +1,40 @@
+use mathlib.Core.Path.{sym, _∙_}
+use borrow.Author.Needs.{needs}
+use Rattle.tuppenceowl.specs.Comparing.{foundById}
+use Rattle.tuppenceowl.proofs.comparing.field_by_id.Statement.{statement}
+use Rattle.tuppenceowl.proofs.comparing.field_by_id.Tie as tie
+
+admit-requires : tie.Need-admit-requires
+admit-requires c κs = search needs
+
+enum-known-refusal : tie.Need-enum-known-refusal
+enum-known-refusal c = search needs
+
+enum-told : tie.Need-enum-told
+enum-told c = search needs
+
+field-by-id-requires : tie.Need-field-by-id-requires
+field-by-id-requires c κs = search needs
+
+as-found-requires : tie.Need-as-found-requires
+as-found-requires c κs = search needs
+
+returns : tie.Need-returns
+unfolding foundById
+returns c = rw (sym (c .before .before .before .admit .ensures) ∙ c .before .refusal .given .1)
+
+returns-2 : tie.Need-returns-2
+unfolding foundById
+returns-2 c = rw (sym (c .before .before .before .before .admit .ensures) ∙ c .before .before .enum-told .given .1, ← c .before .field-by-id .ensures) (c .as-found .ensures)
+
+pub field-by-id-spec : {M : Type 1} → statement M
+field-by-id-spec =
+    tie.close
+    (tie.spec
+    admit-requires
+    enum-known-refusal
+    enum-told
+    field-by-id-requires
+    as-found-requires
+    returns
+    returns-2)
