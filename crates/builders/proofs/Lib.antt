@@ -3,5 +3,3 @@ pub mod Rooms
 pub mod Stores
 pub mod Places
 pub mod Ends
-pub mod Picking
-pub mod Sorting

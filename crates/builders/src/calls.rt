@@ -2,6 +2,7 @@
 ghost use mathlib.Core.Path.{_≡_};
 ghost use mathlib.Core.Bool.{cond};
 ghost use Prim.Native.Nat.{_+_, _*_, _≤_, _<_, min, max};
+ghost use Rattle.limits.specs.Limits.{maxBytes};
 ghost use Rattle.catalogue.specs.Catalogue.{widthOf};
 ghost use Rattle.field.specs.Field.{fieldsOf};
 ghost use Rattle.layout.specs.Layout.{structAt};
@@ -231,7 +232,7 @@ fn noted(c: FieldCursor) -> FieldCursor
 
 // As the Rust: an end that is noted already is only returned.
 fn base_end(c: FieldCursor) -> usize
-    requires { ⌜ c .cursor ≤ 4096 ⌝ }
+    requires { ⌜ c .cursor ≤ maxBytes ⌝ }
     ensures { λ r. ⌜ r ≡ baseEnd c ⌝ }
 {
     if c.based {

@@ -4,12 +4,13 @@ ghost use mathlib.Core.Bool.{true, _&&_};
 ghost use lib.Dec.{leb};
 ghost use Prim.Native.Nat.{_+_, _*_, _/_, _≤_, _<_, min};
 ghost use lib.ListN.{length};
-ghost use Rattle.limits.specs.Limits.{maxBytes};
+ghost use Rattle.limits.specs.Limits.{maxBytes, maxFields, maxName};
 ghost use Rattle.builders.specs.Cursor.{alignUp, paddingField, building, outcome, push, padTo, gaps, roomIn, room, fits, moveTo, sizeOk, flagsAfter, laid, lay, place};
 use crate::FieldCursor;
 use crate::Placed;
 use crate::bytes;
 use field::FieldDef;
+use lent::store;
 use limits::refusal::Refusal;
 
 fn narrow(x: usize) -> u16
@@ -20,8 +21,8 @@ fn narrow(x: usize) -> u16
 }
 
 pub fn align_up(at: usize, align: usize) -> usize
-    requires { ⌜ (at ≤ 4096) × (align < 16) ⌝ }
-    ensures { λ r. ⌜ (r ≡ alignUp at align) × (r < 4112) × (at ≤ r) ⌝ }
+    requires { ⌜ (at ≤ maxBytes) × (align < 16) ⌝ }
+    ensures { λ r. ⌜ (r ≡ alignUp at align) × (r < maxBytes + 16) × (at ≤ r) ⌝ }
 {
     let step = lent::greater(1, align);
     (at + (step - 1)) / step * step
@@ -30,14 +31,14 @@ pub fn align_up(at: usize, align: usize) -> usize
 // ---- one field more
 
 fn push(table: &mut [u8], names: &mut [u8], c: FieldCursor, f: FieldDef, name: &[u8]) -> FieldCursor
-    requires { ⌜ (c .count < 128) × (16 * c .count + 16 ≤ length (now table)) × (33 * c .count + 33 ≤ length (now names)) × (length (now name) ≤ 32) ⌝ }
+    requires { ⌜ (c .count < maxFields) × (16 * c .count + 16 ≤ length (now table)) × (33 * c .count + 33 ≤ length (now names)) × (length (now name) ≤ maxName) ⌝ }
     ensures { λ r. ⌜ building r (now (table .exit)) (now (names .exit)) ≡ push f (now (name .entry)) (building c (now (table .entry)) (now (names .entry))) ⌝ }
 {
     let count = c.count;
     let row = bytes::row(f);
-    bytes::copy(&row, 0, table, field::SIZE * count, field::SIZE);
+    store::copy(&row, 0, table, field::SIZE * count, field::SIZE);
     let slot = bytes::slot(name);
-    bytes::copy(
+    store::copy(
         &slot,
         0,
         names,
