@@ -2,4 +2,3 @@ pub mod Align
 pub mod Rooms
 pub mod Stores
 pub mod Places
-pub mod Ends

@@ -2,12 +2,11 @@
 // their names into lent slots, 33 bytes each. A refused call leaves both as they were.
 ghost use mathlib.Core.Path.{_≡_};
 ghost use Rattle.builders.specs.Cursor.{fresh, building, outcome};
-ghost use Rattle.builders.specs.Calls.{scalarOf, stringOf, likeOf, nestedOf, atOf, finishBaseOf};
+ghost use Rattle.calls.specs.Calls.{scalarOf, stringOf, likeOf, nestedOf, atOf, finishBaseOf};
 ghost use Rattle.finishing.specs.Finish.{finishOf};
 use builders::FieldCursor;
 use builders::Placed;
 use builders::Times;
-use builders::calls;
 use field::FieldDef;
 use layout::block::Holder;
 
