@@ -2,7 +2,7 @@
 use mathlib.Core.Path.{_≡_, refl, sym, ap, _∙_}
 use mathlib.Core.List.{List, [], _∷_, _++_}
 use Prim.Native.Nat.{ℕ, zero, suc, _+_, _-_, _*_, _/_, _%_, _≤_, _<_}
-use native.Mathlib.Nat.{mul-suc, div-add-mod'}
+use native.Mathlib.Nat.{mul-suc, mul-zero, div-add-mod'}
 use native.Mathlib.Omega.{arith}
 use lib.ListN.{length, getD, take}
 use lib.Seq.{sets, getD-take, length-take-le}
@@ -73,14 +73,20 @@ front-fields t n h =
     let e : 16 * n / 16 ≡ n = omega arith in
     rw (l, e) (same-fields (take (16 * n) t) t 0 n (λ j k. getD-take (16 * n) t j 0 (omega arith)))
 
--- one more field stands last
-pub last-field : {A : Type 0} (F : ℕ → A) (from n : ℕ) → gather F 16 from (n + 1) ≡ gather F 16 from n ++ F (from + 16 * n) ∷ []
+-- the bytes at the same places
+pub same-heads : (s t : List ℕ) (from n : ℕ) → ((j : ℕ) → j < from + 33 * n → byteAt s j ≡ byteAt t j) → gather (byteAt s) 33 from n ≡ gather (byteAt t) 33 from n
 unfolding gather
-last-field F from zero = let e : from + 16 * 0 ≡ from = omega arith in rw e
-last-field F from (suc n) =
-    let e : from + 16 * suc n ≡ from + 16 + 16 * n = omega arith in
+same-heads s t from zero h = refl
+same-heads s t from (suc n) h = rw (h from (omega arith), same-heads s t (from + 33) n (λ j k. h j (omega arith)))
+
+-- one more stands last
+pub last-one : {A : Type 0} (F : ℕ → A) (step from n : ℕ) → gather F step from (n + 1) ≡ gather F step from n ++ F (from + step * n) ∷ []
+unfolding gather
+last-one F step from zero = let e : from + step * 0 ≡ from = simp mul-zero (omega arith) in rw e
+last-one F step from (suc n) =
+    let e : from + step * suc n ≡ from + step + step * n = omega (arith, mul-suc step n) in
     let d : suc n + 1 ≡ suc (n + 1) = omega arith in
-    rw (e, d, ← last-field F (from + 16) n)
+    rw (e, d, ← last-one F step (from + step) n)
 
 -- ---- a field that was stored
 

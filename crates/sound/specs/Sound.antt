@@ -1,17 +1,19 @@
--- What holds of a building after every call: its fields lie one behind the other from 0 to the cursor, and none is refused.
+-- What holds of a building after every call: its fields lie one behind the other from 0 to the cursor, none is refused, and there are not too many.
 use Prim.Native.Nat.{ℕ, _+_, _*_, _≤_}
 use mathlib.Core.Path.{_≡_}
 use mathlib.Core.Bool.{Bool, true, cond, _&&_}
 use mathlib.Core.List.{List, [], _∷_}
 use lib.Dec.{leb, ltb, eqb}
 use lib.ListN.{take}
-use Rattle.limits.specs.Limits.{maxBytes}
+use Rattle.limits.specs.Limits.{maxBytes, maxName}
+use Rattle.lent.specs.Bytes.{byteAt}
 use Rattle.lent.specs.Scan.{gather, every, tally}
 use Rattle.field.specs.Field.{fieldAt, fieldsOf, endOf}
 use Rattle.field.specs.declared.FieldDef.{FieldDef}
 use Rattle.table.specs.Table.{reservedZero, widthOk, tableOk}
 use Rattle.table.specs.declared.Rule.{Rule}
-use Rattle.builders.specs.Cursor.{Building, building, Outcome, room}
+use Rattle.layout.specs.declared.block.Holder.{Holder}
+use Rattle.builders.specs.Cursor.{Building, building, Outcome, room, fieldLimit}
 use Rattle.builders.specs.declared.FieldCursor.{FieldCursor}
 use Rattle.builders.specs.declared.Placed.{Placed}
 use Rattle.builders.specs.declared.Placed.the-variants.{At, Refused}
@@ -41,11 +43,27 @@ fieldsIn b = gather (fieldAt (b .table)) 16 0 (b .state .count)
 abbrev pub plain : List ℕ → FieldDef → Bool
 plain cat f = reservedZero f && widthOk cat f
 
-pub record Sound (cat : List ℕ) (b : Building) : Type 0 where
+-- the first bytes of the names so far, which say how long each is
+abbrev pub lengthsIn : Building → List ℕ
+lengthsIn b = gather (byteAt (b .names)) 33 0 (b .state .count)
+
+abbrev pub short : ℕ → Bool
+short n = leb n maxName
+
+pub record Sound (cat : List ℕ) (holder : Holder) (b : Building) : Type 0 where
   pub tiled : tiles 0 (b .state .cursor) (fieldsIn b) ≡ true
   pub fine : every (plain cat) (fieldsIn b) ≡ true
   pub within : b .state .cursor ≤ maxBytes
   pub roomy : b .state .count ≤ room b
+  pub limited : b .state .most ≡ fieldLimit holder
+  pub based : b .state .base ≤ b .state .cursor
+  pub named : every short (lengthsIn b) ≡ true
+
+-- no more fields than the holder may have, and no end past the limit
+pub record Limited (holder : Holder) (c : FieldCursor) : Type 0 where
+  pub few : c .count ≤ fieldLimit holder
+  pub ended : c .cursor ≤ maxBytes
+  pub based : c .base ≤ c .cursor
 
 -- what one goes on with: the state that was answered, and after a refusal the one before
 abbrev pub stateAfter : FieldCursor → Placed → FieldCursor
