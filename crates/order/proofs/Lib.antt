@@ -1,2 +1,3 @@
 pub mod Placing
 pub mod Mapped
+pub mod Kept

@@ -13,6 +13,7 @@ use Rattle.lent.specs.Scan.{every}
 use Rattle.lent.proofs.Scan.{both}
 use Rattle.field.specs.Field.{endOf}
 use Rattle.field.specs.declared.FieldDef.{FieldDef}
+use Rattle.order.proofs.Kept.{every-insert, every-sorted}
 use Rattle.order.specs.Order.{insertBy, sortBy, offsetOf, byOffset}
 use Rattle.table.specs.Table.{shareByte, clearOf, apart}
 use Rattle.table.specs.Parts.{chain}
@@ -30,7 +31,7 @@ clear-of-rest f low (g ∷ gs) h e =
     let k : low ≤ g .offset = leb-true low (g .offset) (z .0) in
     rw (clear-after f g (omega arith)) (clear-of-rest f (endOf g) gs (omega arith) (z .1))
 
-chain-apart : (low : ℕ) (gs : List FieldDef) → chain low gs ≡ true → apart gs ≡ true
+pub chain-apart : (low : ℕ) (gs : List FieldDef) → chain low gs ≡ true → apart gs ≡ true
 unfolding chain apart
 chain-apart low [] e = refl
 chain-apart low (g ∷ gs) e =
@@ -45,49 +46,32 @@ swap true false true d = refl
 swap true false false d = refl
 swap false b c d = refl
 
-shift : (a b c : Bool) → (a && (b && c)) ≡ (b && (a && c))
-shift true b c = refl
-shift false true c = refl
-shift false false c = refl
-
-every-insert : (p : FieldDef → Bool) (f : FieldDef) (gs : List FieldDef) → every p (insertBy offsetOf f gs) ≡ (p f && every p gs)
-unfolding every insertBy
-every-insert p f [] = refl
-every-insert p f (g ∷ gs) = go (every-insert p f gs) (leb (f .offset) (g .offset)) where
-  go : every p (insertBy offsetOf f gs) ≡ (p f && every p gs) → (t : Bool) → every p (cond t (f ∷ g ∷ gs) (g ∷ insertBy offsetOf f gs)) ≡ (p f && (p g && every p gs))
-  go ih true = refl
-  go ih false = rw ih (shift (p g) (p f) (every p gs))
-
-every-sorted : (p : FieldDef → Bool) (fs : List FieldDef) → every p (byOffset fs) ≡ every p fs
-unfolding every sortBy
-every-sorted p [] = refl
-every-sorted p (f ∷ fs) = every-insert p f (byOffset fs) ∙ ap (λ (b : Bool). p f && b) (every-sorted p fs)
-
 clear-sym : (f g : FieldDef) → clearOf f g ≡ clearOf g f
 clear-sym f g =
     let e : max (f .offset) (g .offset) ≡ max (g .offset) (f .offset) = omega arith in
     let d : min (endOf f) (endOf g) ≡ min (endOf g) (endOf f) = omega arith in
     rw (e, d)
 
-apart-insert : (f : FieldDef) (gs : List FieldDef) → apart (insertBy offsetOf f gs) ≡ (every (clearOf f) gs && apart gs)
-unfolding every insertBy apart
-apart-insert f [] = refl
-apart-insert f (g ∷ gs) = go (apart-insert f gs) (leb (f .offset) (g .offset)) where
-  go : apart (insertBy offsetOf f gs) ≡ (every (clearOf f) gs && apart gs)
-      → (t : Bool) → apart (cond t (f ∷ g ∷ gs) (g ∷ insertBy offsetOf f gs)) ≡ ((clearOf f g && every (clearOf f) gs) && (every (clearOf g) gs && apart gs))
-  go ih true = refl
-  go ih false =
-      rw (every-insert (clearOf g) f gs, ih, clear-sym g f)
-      (swap (clearOf f g) (every (clearOf g) gs) (every (clearOf f) gs) (apart gs))
+module _ (key : FieldDef → ℕ) where
+  apart-insert : (f : FieldDef) (gs : List FieldDef) → apart (insertBy key f gs) ≡ (every (clearOf f) gs && apart gs)
+  unfolding every insertBy apart
+  apart-insert f [] = refl
+  apart-insert f (g ∷ gs) = go (apart-insert f gs) (leb (key f) (key g)) where
+    go : apart (insertBy key f gs) ≡ (every (clearOf f) gs && apart gs)
+        → (t : Bool) → apart (cond t (f ∷ g ∷ gs) (g ∷ insertBy key f gs)) ≡ ((clearOf f g && every (clearOf f) gs) && (every (clearOf g) gs && apart gs))
+    go ih true = refl
+    go ih false =
+        rw (every-insert key (clearOf g) f gs, ih, clear-sym g f)
+        (swap (clearOf f g) (every (clearOf g) gs) (every (clearOf f) gs) (apart gs))
 
-apart-sorted : (fs : List FieldDef) → apart (byOffset fs) ≡ apart fs
-unfolding sortBy apart
-apart-sorted [] = refl
-apart-sorted (f ∷ fs) = apart-insert f (byOffset fs) ∙ rw (every-sorted (clearOf f) fs, apart-sorted fs)
+  pub apart-sorted : (fs : List FieldDef) → apart (sortBy key fs) ≡ apart fs
+  unfolding sortBy apart
+  apart-sorted [] = refl
+  apart-sorted (f ∷ fs) = apart-insert f (sortBy key fs) ∙ rw (every-sorted key (clearOf f) fs, apart-sorted fs)
 
 -- fields that follow each other in offset order lie apart
 pub chained : (fs : List FieldDef) → chain 0 (byOffset fs) ≡ true → true ≡ apart fs
-chained fs e = sym (chain-apart 0 (byOffset fs) e) ∙ apart-sorted fs
+chained fs e = sym (chain-apart 0 (byOffset fs) e) ∙ apart-sorted offsetOf fs
 
 -- ---- a turn of the loop over an order
 

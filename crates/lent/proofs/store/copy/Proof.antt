@@ -40,10 +40,10 @@ loop-less c = omega arith
 
 loop-again : tie.Need-loop-again Inv-loop μ-loop
 loop-again c = (
-      omega arith,
-      simp length-set (omega arith),
-      copied (c .before .before .before .args .s .now) (c .before .before .loop .d) (c .before .before .before .args .from) (c .before .before .before .args .to) (c .before .before .before .args .n) (c .before .before .loop .i) (omega arith) (omega arith) ∙ c .before .before .loop .inv .2,
-    )
+  omega arith,
+  simp length-set (omega arith),
+  copied (c .before .before .before .args .s .now) (c .before .before .loop .d) (c .before .before .before .args .from) (c .before .before .before .args .to) (c .before .before .before .args .n) (c .before .before .loop .i) (omega arith) (omega arith) ∙ c .before .before .loop .inv .2,
+)
 
 same-length : tie.Need-same-length Inv-loop μ-loop
 same-length c = omega arith

@@ -1,0 +1,4 @@
+pub mod Align
+pub mod Rooms
+pub mod Stores
+pub mod Places

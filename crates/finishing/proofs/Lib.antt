@@ -1,0 +1,3 @@
+pub mod Ended
+pub mod Sorting
+pub mod Picking

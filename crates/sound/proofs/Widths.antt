@@ -1,0 +1,122 @@
+-- What a valid catalogue and the flags give: padding is no integer, an integer has a width, and a flag more leaves an array one. Assumes nothing.
+use mathlib.Core.Path.{_≡_, refl, sym, ap, _∙_}
+use mathlib.Core.Bool.{Bool, true, false, cond, not, _&&_, _||_, false≢true}
+use mathlib.Core.List.{List, [], _∷_}
+use mathlib.Core.Logic.{_⊎_, inl, inr}
+use Prim.Native.Nat.{ℕ, zero, suc, _+_, _-_, _*_, _/_, _%_, _≤_, _<_, min, max}
+use native.Mathlib.Omega.{arith}
+use borrow.Author.Tests.{eq-eqb, ne-eqb, eqb-true, eqb-false, lt-ltb, ltb-true, le-leb, lt-leb, leb-true, leb-false}
+use lib.Bits.{bitAnd, bitOr, and-step, or-step, and-zero-l}
+use lib.Dec.{leb, ltb, eqb}
+use lib.ListN.{length}
+use Rattle.lent.specs.Bytes.{byteAt}
+use Rattle.lent.specs.Scan.{gather, every, tally}
+use Rattle.lent.proofs.Scan.{both, nth}
+use Rattle.catalogue.specs.Catalogue.{classOf, widthOf, kinds, within, firstOf, idOf, padding, kindOk, isWidth, catalogueOk, flagsOk, arrayFlag, extensionFlag, oneEach, othersOk, unsigned, signed, countClass, decimal, string, struct}
+
+-- ---- flags
+
+-- by halves: as many as `most`
+keeps : (most a e m : ℕ) → a ≤ most → bitAnd a m ≤ bitAnd (bitOr a e) m
+keeps zero a e m h = let z : a ≡ 0 = omega arith in rw (z, and-zero-l m) (omega arith)
+keeps (suc most) a e m h =
+    let o : bitOr a e ≡ bitOr (a / 2) (e / 2) * 2 + max (a % 2) (e % 2) = or-step a e in
+    let d : bitOr a e / 2 ≡ bitOr (a / 2) (e / 2) = omega arith in
+    let p : bitOr a e % 2 ≡ max (a % 2) (e % 2) = omega arith in
+    let l : bitAnd a m ≡ bitAnd (a / 2) (m / 2) * 2 + min (a % 2) (m % 2) = and-step a m in
+    let r : bitAnd (bitOr a e) m ≡ bitAnd (bitOr (a / 2) (e / 2)) (m / 2) * 2 + min (max (a % 2) (e % 2)) (m % 2) = rw (← d, ← p) (and-step (bitOr a e) m) in
+    let k : bitAnd (a / 2) (m / 2) ≤ bitAnd (bitOr (a / 2) (e / 2)) (m / 2) = keeps most (a / 2) (e / 2) (m / 2) (omega arith) in
+    omega arith
+
+pub or-keeps : (a e m : ℕ) → bitAnd a m ≤ bitAnd (bitOr a e) m
+or-keeps a e m = keeps a a e m (omega arith)
+
+-- ---- the padding id
+
+module _ (c : List ℕ) where
+  found : (id n : ℕ) → tally (within 96 111) (gather (byteAt c) 1 id (suc n)) ≡ 1 → classOf c (firstOf c padding id n) ≡ padding
+  unfolding firstOf gather tally
+  found id zero e = go (within 96 111 (byteAt c id)) (both (leb 96 (byteAt c id)) (leb (byteAt c id) 111)) e where
+    go : (p : Bool) → (p ≡ true → (leb 96 (byteAt c id) ≡ true) × (leb (byteAt c id) 111 ≡ true)) → cond p 1 0 + 0 ≡ 1 → byteAt c id / 16 ≡ 6
+    go true h e =
+        let l : 96 ≤ byteAt c id = leb-true 96 (byteAt c id) (h refl .0) in
+        let g : byteAt c id ≤ 111 = leb-true (byteAt c id) 111 (h refl .1) in
+        omega arith
+    go false h e = absurd (let z : ⊥ = omega arith in z)
+  found id (suc n) e =
+      go (eqb (classOf c id) padding) (eqb-true (classOf c id) padding) (eqb-false (classOf c id) padding) e (found (id + 1) n) where
+        skip : (p : Bool) → (p ≡ true → (leb 96 (byteAt c id) ≡ true) × (leb (byteAt c id) 111 ≡ true)) → (byteAt c id / 16 ≡ 6 → ⊥)
+            → cond p 1 0 + tally (within 96 111) (gather (byteAt c) 1 (id + 1) (suc n)) ≡ 1 → tally (within 96 111) (gather (byteAt c) 1 (id + 1) (suc n)) ≡ 1
+        skip true h no-pad e =
+            let l : 96 ≤ byteAt c id = leb-true 96 (byteAt c id) (h refl .0) in
+            let g : byteAt c id ≤ 111 = leb-true (byteAt c id) 111 (h refl .1) in
+            absurd (no-pad (omega arith))
+        skip false h no-pad e = omega arith
+
+        go : (p : Bool) → (p ≡ true → classOf c id ≡ padding) → (p ≡ false → classOf c id ≡ padding → ⊥)
+            → cond (within 96 111 (byteAt c id)) 1 0 + tally (within 96 111) (gather (byteAt c) 1 (id + 1) (suc n)) ≡ 1
+            → (tally (within 96 111) (gather (byteAt c) 1 (id + 1) (suc n)) ≡ 1 → classOf c (firstOf c padding (id + 1) n) ≡ padding)
+            → classOf c (cond p id (firstOf c padding (id + 1) n)) ≡ padding
+        go true y n e ih = y refl
+        go false y n e ih = ih (skip (within 96 111 (byteAt c id)) (both (leb 96 (byteAt c id)) (leb (byteAt c id) 111)) (n refl) e)
+
+  module _ (ok : catalogueOk c ≡ true) where
+    tests : (every kindOk (kinds c) ≡ true) × (othersOk c ≡ true)
+    unfolding catalogueOk
+    tests =
+        let last = oneEach c signed && othersOk c in
+        let ints = oneEach c unsigned && (oneEach c signed && othersOk c) in
+        let all = every kindOk (kinds c) && ints in
+        let a = both (eqb (length c) 262) (flagsOk (arrayFlag c) (extensionFlag c) && all) ok .1 in
+        let b = both (flagsOk (arrayFlag c) (extensionFlag c)) all a .1 in
+        let d = both (every kindOk (kinds c)) ints b in
+        let e = both (oneEach c unsigned) last (d .1) .1 in
+        (d .0, both (oneEach c signed) (othersOk c) e .1)
+
+    pub padding-class : classOf c (idOf c padding) ≡ padding
+    padding-class =
+        let rest = eqb (countClass c struct) 1 && eqb (countClass c padding) 1 in
+        let a = both (eqb (countClass c decimal) 1) (eqb (countClass c string) 2 && rest) (tests .1) .1 in
+        let b = both (eqb (countClass c string) 2) rest a .1 in
+        found 0 255 (eqb-true (countClass c padding) 1 (both (eqb (countClass c struct) 1) (eqb (countClass c padding) 1) b .1))
+
+    -- an integer has a width
+    pub integer-width : (id : ℕ) → id < 256 → (classOf c id ≡ unsigned) ⊎ (classOf c id ≡ signed) → widthOf c id ≡ 0 → ⊥
+    integer-width id h k w = wide (byteAt c id) (rw (ez) at (nth kindOk (byteAt c) 1 0 256 id h (tests .0))) k w where
+      ez : 0 + 1 * id ≡ id
+      ez = omega arith
+
+      wide : (b : ℕ) → kindOk b ≡ true → (b / 16 ≡ 1) ⊎ (b / 16 ≡ 2) → b % 16 ≡ 0 → ⊥
+      wide b e (inl k) w = false≢true (rw (w, k) at e)
+      wide b e (inr k) w = false≢true (rw (w, k) at e)
+
+-- ---- the size of a field that is taken
+
+pub size-there : (size : ℕ) (rest : Bool) → (not (eqb size 0) && rest) ≡ true → 0 < size
+size-there zero rest e = absurd (false≢true e)
+size-there (suc size) rest e = omega arith
+
+-- an integer that is no array has its width, also when a flag more was set: x and y are what the flags share with the array flag
+module _ (class w x y size : ℕ) (more : x ≤ y) (wide : (class ≡ 1) ⊎ (class ≡ 2) → w ≡ 0 → ⊥) where
+  never : (a : Bool) → (not (a && false) || eqb size w) ≡ true
+  never true = refl
+  never false = refl
+
+  or-true : (a : Bool) → (a || true) ≡ true
+  or-true true = refl
+  or-true false = refl
+
+  no-integer : w ≡ 0 → (eqb class 1 || eqb class 2) ≡ false
+  no-integer e = rw (ne-eqb class 1 (λ k. wide (inl k) e), ne-eqb class 2 (λ k. wide (inr k) e))
+
+  pub width-kept : (not (eqb size 0) && (not (eqb x 0) || (eqb w 0 || eqb size w))) ≡ true
+      → (not ((eqb class 1 || eqb class 2) && not (not (eqb y 0))) || eqb size w) ≡ true
+  width-kept e = array (eqb x 0) (eqb-false x 0) (both (not (eqb size 0)) (not (eqb x 0) || (eqb w 0 || eqb size w)) e .1) where
+    sized : (p : Bool) → (p ≡ true → w ≡ 0) → (p || eqb size w) ≡ true → (not ((eqb class 1 || eqb class 2) && not (not (eqb y 0))) || eqb size w) ≡ true
+    sized true h e = rw (no-integer (h refl))
+    sized false h e = rw e (or-true (not ((eqb class 1 || eqb class 2) && not (not (eqb y 0)))))
+
+    array : (p : Bool) → (p ≡ false → x ≡ 0 → ⊥) → (not p || (eqb w 0 || eqb size w)) ≡ true
+        → (not ((eqb class 1 || eqb class 2) && not (not (eqb y 0))) || eqb size w) ≡ true
+    array false h e = rw (ne-eqb y 0 (λ k. h refl (omega arith))) (never (eqb class 1 || eqb class 2))
+    array true h e = sized (eqb w 0) (eqb-true w 0) e
