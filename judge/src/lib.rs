@@ -5,6 +5,7 @@
 include!(concat!(env!("OUT_DIR"), "/tree.rs"));
 
 pub mod block;
+mod building;
 mod outside;
 pub mod v3;
 pub mod v4;

@@ -6,12 +6,14 @@ mod comparing;
 /// What earlier lines stated.
 pub struct Kept {
     layout: StreamLayout,
+    building: crate::building::Building,
 }
 
 impl Default for Kept {
     fn default() -> Self {
         Self {
             layout: crate::block::layout(&[]),
+            building: Default::default(),
         }
     }
 }
@@ -34,6 +36,9 @@ const WORDS: &[(&str, usize, Ask)] = &[
     ("hash", 1, hash),
     ("sum", 1, sum),
     ("window", 3, window),
+    ("begin", 1, begin),
+    ("call", 1, call),
+    ("entry", 1, entry),
     ("verdict", 2, comparing::verdict),
     ("verdict_of", 2, comparing::verdict_of),
     ("by_id", 2, comparing::by_id),
@@ -114,4 +119,18 @@ fn sum(_kept: &mut Kept, words: &[&str]) -> Answer {
 fn window(_kept: &mut Kept, words: &[&str]) -> Answer {
     let (bytes, offset, size) = (hex(words[0])?, number(words[1])?, number(words[2])?);
     or_none(wire::window(&bytes, offset, size).map(|(start, end)| format!("{start} {end}")))
+}
+
+// ---- the field cursor
+
+fn begin(kept: &mut Kept, words: &[&str]) -> Answer {
+    Some(kept.building.begin(words[0]))
+}
+
+fn call(kept: &mut Kept, words: &[&str]) -> Answer {
+    kept.building.call(&kept.layout, &hex(words[0])?)
+}
+
+fn entry(kept: &mut Kept, words: &[&str]) -> Answer {
+    kept.building.entry(number(words[0])?)
 }

@@ -1,7 +1,7 @@
 -- A catalogue in 262 bytes. For each of 256 type ids, from 0 on, a byte: sixteen times the id's class, and its width.
 -- Then the array flag at 256, the extension flag at 257, the header's field id at 258 and the padding field id at 260, two bytes each.
-use Prim.Native.Nat.{ℕ, _+_, _*_, _/_, _%_}
-use mathlib.Core.Bool.{Bool, not, _&&_, _||_}
+use Prim.Native.Nat.{ℕ, zero, suc, _+_, _*_, _/_, _%_}
+use mathlib.Core.Bool.{Bool, cond, not, _&&_, _||_}
 use mathlib.Core.List.{List}
 use lib.Dec.{leb, ltb, eqb}
 use lib.ListN.{length}
@@ -53,6 +53,15 @@ headerId c = numberAt c 258 2
 
 abbrev pub paddingId : List ℕ → ℕ
 paddingId c = numberAt c 260 2
+
+-- the first of n ids from `id` on that is of a class, else the one after them
+unfoldable pub firstOf : List ℕ → ℕ → ℕ → ℕ → ℕ
+firstOf c class id zero = id
+firstOf c class id (suc n) = cond (eqb (classOf c id) class) id (firstOf c class (id + 1) n)
+
+-- the id of a class that has one, as struct and padding do in a valid catalogue; 255 where no id before it is
+abbrev pub idOf : List ℕ → ℕ → ℕ
+idOf c class = firstOf c class 0 255
 
 -- ---- refusal 1
 

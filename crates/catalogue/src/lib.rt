@@ -5,7 +5,7 @@ ghost use lib.ListN.{length};
 ghost use lib.Dec.{eqb};
 ghost use Rattle.lent.specs.Bytes.{byteAt};
 ghost use Rattle.lent.specs.Scan.{gather, every, tally};
-ghost use Rattle.catalogue.specs.Catalogue.{classOf, widthOf, arrayFlag, kinds, isWidth, isBit, kindOk, within, count, countClass, oneEach, othersOk, flagsOk, catalogueOk};
+ghost use Rattle.catalogue.specs.Catalogue.{classOf, widthOf, arrayFlag, extensionFlag, paddingId, idOf, kinds, isWidth, isBit, kindOk, within, count, countClass, oneEach, othersOk, flagsOk, catalogueOk};
 
 pub const SIZE: usize = 262;
 
@@ -16,6 +16,10 @@ const HALF: usize = 128;
 const ARRAY_FLAG: usize = 256;
 
 const EXTENSION_FLAG: usize = 257;
+
+const PADDING_ID: usize = 260;
+
+const LAST_ID: u8 = 255;
 
 // The classes.
 pub const OTHER: u8 = 0;
@@ -56,6 +60,35 @@ pub fn array_flag(cat: &[u8]) -> u8
     ensures { λ r. ⌜ r ≡ arrayFlag (now (cat .entry)) ⌝ }
 {
     lent::byte_at(cat, ARRAY_FLAG)
+}
+
+pub fn extension_flag(cat: &[u8]) -> u8
+    ensures { λ r. ⌜ r ≡ extensionFlag (now (cat .entry)) ⌝ }
+{
+    lent::byte_at(cat, EXTENSION_FLAG)
+}
+
+// The padding field id.
+pub fn padding_id(cat: &[u8]) -> u16
+    ensures { λ r. ⌜ r ≡ paddingId (now (cat .entry)) ⌝ }
+{
+    lent::u16_at(cat, PADDING_ID)
+}
+
+// The first id of a class; 255 where none before it is.
+pub fn id_of(cat: &[u8], class: u8) -> u8
+    ensures { λ r. ⌜ r ≡ idOf (now (cat .entry)) class ⌝ }
+{
+    let mut id: u8 = 0;
+    let mut left: u8 = LAST_ID;
+    while left != 0 {
+        if class_of(cat, id) == class {
+            return id;
+        }
+        id += 1;
+        left -= 1;
+    }
+    id
 }
 
 // ---- refusal 1

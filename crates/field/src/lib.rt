@@ -106,7 +106,7 @@ fn is_integer(cat: &[u8], f: FieldDef) -> bool
     (class == catalogue::UNSIGNED) | (class == catalogue::SIGNED)
 }
 
-fn is_array(cat: &[u8], f: FieldDef) -> bool
+pub fn is_array(cat: &[u8], f: FieldDef) -> bool
     ensures { λ r. ⌜ r ≡ isArray (now (cat .entry)) f ⌝ }
 {
     f.flags & catalogue::array_flag(cat) != 0

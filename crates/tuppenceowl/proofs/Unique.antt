@@ -1,5 +1,5 @@
 -- Two answers that meet a public call's promise are equal: a promise leaves nothing open. Assumes nothing.
-use mathlib.Core.Path.{_≡_, sym, _∙_}
+use mathlib.Core.Path.{_≡_, sym, ap, _∙_}
 use mathlib.Core.List.{List}
 use Prim.Native.Nat.{ℕ}
 use Rattle.admission.specs.Admission.{admitCatalogue, admitOf, statusOf}
@@ -14,6 +14,10 @@ use Rattle.tuppenceowl.specs.declared.hashing.Summed.{Summed}
 use Rattle.tuppenceowl.specs.declared.hashing.Booted.{Booted}
 use Rattle.tuppenceowl.specs.declared.Windowed.{Windowed}
 use Rattle.tuppenceowl.specs.declared.Found.{Found}
+use Rattle.layout.specs.declared.block.Holder.{Holder}
+use Rattle.builders.specs.Cursor.{Outcome, outcome, fresh}
+use Rattle.builders.specs.declared.FieldCursor.{FieldCursor}
+use Rattle.builders.specs.declared.Placed.{Placed}
 
 equal : {A : Type 0} {x r s : A} → r ≡ x → s ≡ x → r ≡ s
 equal p q = p ∙ sym q
@@ -59,6 +63,18 @@ pub owl-layout-hash-unique : (cat layout : List ℕ) (k budget hash visits r h v
     → s ≡ summedStatus (summedOf cat layout k budget) → i ≡ hashOr (summedOf cat layout k budget) hash → w ≡ visitsOr (summedOf cat layout k budget) visits
     → (r ≡ s) × (h ≡ i) × (v ≡ w)
 owl-layout-hash-unique cat layout k budget hash visits r h v s i w er eh ev es ei ew = (equal er es, equal eh ei, equal ev ew)
+
+-- ---- the field cursor: `empty`, and one law for the seven calls that answer a place, whose promise is one equation of the answer,
+-- the table and the names
+
+pub empty-unique : (holder : Holder) (r s : FieldCursor) → r ≡ fresh holder → s ≡ fresh holder → r ≡ s
+empty-unique holder r s = equal
+
+module _ (promised : Outcome) where
+  pub cursor-call-unique : (r s : Placed) (t n u m : List ℕ) → outcome r t n ≡ promised → outcome s u m ≡ promised → (r ≡ s) × (t ≡ u) × (n ≡ m)
+  cursor-call-unique r s t n u m p q =
+      let z : outcome r t n ≡ outcome s u m = equal p q in
+      (ap (λ (o : Outcome). o .answer) z, ap (λ (o : Outcome). o .table) z, ap (λ (o : Outcome). o .names) z)
 
 -- ---- the verdict and the lookups
 
