@@ -31,7 +31,18 @@ pub fn scalar(
 ) -> Placed
     ensures { λ r. ⌜ outcome r (now (table .exit)) (now (names .exit)) ≡ scalarOf (now (cat .entry)) «field_id» «type_id» size flags «def_index» (now (name .entry)) (building c (now (table .entry)) (now (names .entry))) ⌝ }
 {
-    calls::scalar(cat, table, names, c, field_id, type_id, size, flags, def_index, name)
+    calls::scalar(
+        cat,
+        table,
+        names,
+        c,
+        field_id,
+        type_id,
+        size,
+        flags,
+        def_index,
+        name,
+    )
 }
 
 pub fn string(
@@ -96,13 +107,7 @@ pub fn finish_base(cat: &[u8], table: &mut [u8], names: &mut [u8], c: FieldCurso
 }
 
 // The answer's base and cursor are those of the whole.
-pub fn finish(
-    cat: &[u8],
-    table: &mut [u8],
-    names: &mut [u8],
-    c: FieldCursor,
-    ids: &[u16],
-) -> Placed
+pub fn finish(cat: &[u8], table: &mut [u8], names: &mut [u8], c: FieldCursor, ids: &[u16]) -> Placed
     ensures { λ r. ⌜ outcome r (now (table .exit)) (now (names .exit)) ≡ finishOf (now (cat .entry)) (now (ids .entry)) (building c (now (table .entry)) (now (names .entry))) ⌝ }
 {
     builders::finish::finish(cat, table, names, c, ids)

@@ -1,10 +1,11 @@
+-- The list is as long as it was.
 use Prim.Native.Nat.{_-_, _≤_}
 use borrow.Author.Needs.{needs}
 use lib.ListN.{length, length-set}
 use mathlib.Core.Path.{_≡_}
 use native.Mathlib.Omega.{arith}
-use Rattle.cursor_cases.proofs.words.ids_in.Statement.{statement}
-use Rattle.cursor_cases.proofs.words.ids_in.Tie as tie
+use Rattle.ask_cursor.proofs.ids_in.Statement.{statement}
+use Rattle.ask_cursor.proofs.ids_in.Tie as tie
 
 abbrev Inv-loop : tie.InvT-loop
 Inv-loop bytes ids₀ n₀ ids n = (n ≤ length ids₀) × (length ids ≡ length ids₀)
