@@ -1,7 +1,7 @@
 //! Sees the private cursor of builders.rs.
 use super::{FieldCursor, Nested};
 use crate::layout::FieldDef;
-use crate::v4::fields::{Field, FieldType};
+use crate::v4::fields::{Field, FieldType, FixedWidth};
 use crate::v4::types::*;
 
 macro_rules! scalar_of {
@@ -31,6 +31,11 @@ impl Cursor {
         scalar_of!(self.0, f, name,
             u8 u16 u32 u64 i8 i16 i32 i64 Decimal Char f32 f64 TimestampNs
             Enum16 EnumChar Enum8 BitSet8 BitSet16 BitSet32 BitSet64)
+    }
+
+    /// As a host of the Rust calls it: the type is known.
+    pub fn typed<T: FixedWidth>(&mut self, id: u16, name: &str) {
+        self.0.scalar(Field::<T>::new(id), name, 0)
     }
 
     pub fn string(&mut self, f: &FieldDef, name: &str) {
