@@ -1,5 +1,6 @@
 //! Rows for the field cursor: thirty scalars and a finish, from an empty cursor on. Both sides write fields and names; the Rust into vectors
 //! and strings that it allocates, the port into memory that is lent.
+use crate::inputs::INTEGERS;
 use crate::measure::Call;
 use crate::port::Cursor;
 use crate::{row, Ends, Row};
@@ -8,18 +9,6 @@ use std::hint::black_box;
 
 const SCALARS: usize = 30;
 const FIRST_ID: u16 = 2;
-
-/// Types and widths, one after the other: some leave a gap.
-const TYPES: [(u8, u16); 8] = [
-    (4, 8),
-    (3, 4),
-    (20, 8),
-    (2, 2),
-    (1, 1),
-    (19, 4),
-    (18, 2),
-    (17, 1),
-];
 
 pub struct Building {
     order: &'static str,
@@ -45,8 +34,8 @@ fn built(c: &mut Cursor, catalogue: &[u8], b: &Building) -> bool {
     c.begin();
     let mut fine = true;
     for (i, name) in b.names.iter().enumerate() {
-        let (type_id, size) = TYPES[i % TYPES.len()];
-        fine &= c.scalar(catalogue, FIRST_ID + i as u16, type_id, size, name) == 0;
+        let (type_id, size) = INTEGERS[i % INTEGERS.len()];
+        fine &= c.scalar(catalogue, FIRST_ID + i as u16, type_id, size.into(), name) == 0;
     }
     fine & (c.finish(catalogue, &b.ids) == 0)
 }
@@ -55,7 +44,7 @@ fn built_by_rust(b: &Building) -> FieldCursor {
     let mut c = FieldCursor::default();
     for (i, name) in b.names.iter().enumerate() {
         let id = FIRST_ID + i as u16;
-        match i % TYPES.len() {
+        match i % INTEGERS.len() {
             0 => c.typed::<u64>(id, name),
             1 => c.typed::<u32>(id, name),
             2 => c.typed::<i64>(id, name),
