@@ -10,6 +10,7 @@ Each case states its answer; the model (tests/model.py), written from the rules 
 """
 import os, random, struct, subprocess, sys
 
+from building_cases import buildings
 from comparing_cases import comparings, recorded_pairs
 from model import *
 
@@ -443,7 +444,7 @@ def recorded(c):
 
 def fixed():
     c = Cases()
-    for part_of_list in (catalogues, pairs, shapes, limits, overlaps, widths, sizes, windows, fields, hashes, recorded, comparings, recorded_pairs):
+    for part_of_list in (catalogues, pairs, shapes, limits, overlaps, widths, sizes, windows, fields, hashes, recorded, comparings, recorded_pairs, buildings):
         if part_of_list is not catalogues and not valid(c.cat):
             c.catalogue("a valid catalogue", 0, catalogue())
         part_of_list(c)

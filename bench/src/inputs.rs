@@ -26,18 +26,21 @@ pub fn catalogue() -> Vec<u8> {
     bytes
 }
 
-/// Integers of all widths and both signs, each of eight bytes' room.
+/// Type ids of integers and their widths: all widths and both signs.
+pub const INTEGERS: [(u8, u8); 8] = [
+    (4, 8),
+    (3, 4),
+    (20, 8),
+    (2, 2),
+    (1, 1),
+    (19, 4),
+    (18, 2),
+    (17, 1),
+];
+
+/// Integers, each of eight bytes' room.
 fn field(i: u16) -> [u8; 16] {
-    let (type_id, size) = [
-        (4, 8),
-        (3, 4),
-        (20, 8),
-        (2, 2),
-        (1, 1),
-        (19, 4),
-        (18, 2),
-        (17, 1),
-    ][usize::from(i) % 8];
+    let (type_id, size) = INTEGERS[usize::from(i) % INTEGERS.len()];
     let mut row = [0; 16];
     row[..2].copy_from_slice(&(2 + i).to_le_bytes());
     row[2..4].copy_from_slice(&(24 + 8 * i).to_le_bytes());

@@ -1,4 +1,5 @@
 //! Prints what a call of the port takes beside one of the Rust. All rows of both tables are timed in one pass.
+mod cursors;
 mod inputs;
 mod measure;
 mod port;
@@ -20,6 +21,7 @@ struct Inputs {
     kibibyte: Vec<u8>,
     scaling: Vec<(u16, Vec<u8>)>,
     pairs: Vec<verdicts::Pair>,
+    buildings: Vec<cursors::Building>,
 }
 
 impl Inputs {
@@ -34,6 +36,7 @@ impl Inputs {
             kibibyte: (0..1024u32).map(|i| (i * i / 7) as u8).collect(),
             scaling: [16, 32, 64, 128].map(|n| (n, inputs::in_order(n))).into(),
             pairs: verdicts::pairs(),
+            buildings: cursors::buildings(),
         }
     }
 }
@@ -201,6 +204,7 @@ fn rows(i: &Inputs) -> Vec<Row<'_>> {
     ));
     all.extend(i.hashed.iter().flat_map(|h| hash_rows(&i.catalogue, h)));
     all.extend(i.pairs.iter().flat_map(|p| verdicts::rows(&i.catalogue, p)));
+    all.extend(i.buildings.iter().map(|b| cursors::rows(&i.catalogue, b)));
     all.extend(i.scaling.iter().map(|s| scaling_row(&i.catalogue, s)));
     all
 }

@@ -1,4 +1,4 @@
-//! The port's calls. A slice crosses as a pointer and a length; the calls take any bytes and write none of them.
+//! The port's calls. A slice crosses as a pointer and a length; the calls take any bytes, and only the cursor's write some of them.
 
 extern "C" {
     fn owl_check_catalogue(cat: *const u8, cat_len: usize) -> u8;
@@ -22,6 +22,41 @@ extern "C" {
         k: usize,
         compiled: *const u8,
         compiled_len: usize,
+    ) -> u8;
+    fn owl_cursor_scalar(
+        cat: *const u8,
+        cat_len: usize,
+        table: *mut u8,
+        table_len: usize,
+        names: *mut u8,
+        names_len: usize,
+        most: usize,
+        count: *mut usize,
+        cursor: *mut usize,
+        base: *mut usize,
+        noted: *mut usize,
+        field_id: u16,
+        type_id: u8,
+        size: u16,
+        flags: u8,
+        def_index: u16,
+        name: *const u8,
+        name_len: usize,
+    ) -> u8;
+    fn owl_cursor_finish(
+        cat: *const u8,
+        cat_len: usize,
+        table: *mut u8,
+        table_len: usize,
+        names: *mut u8,
+        names_len: usize,
+        most: usize,
+        count: *mut usize,
+        cursor: *mut usize,
+        base: *mut usize,
+        noted: *mut usize,
+        ids: *const u16,
+        ids_len: usize,
     ) -> u8;
 }
 
@@ -68,5 +103,91 @@ pub fn verdict(cat: &[u8], stream: &[u8], compiled: &[u8]) -> u8 {
             compiled.as_ptr(),
             compiled.len(),
         )
+    }
+}
+
+/// A record's field cursor: four numbers of its state, and the memory that it fills.
+pub struct Cursor {
+    count: usize,
+    cursor: usize,
+    base: usize,
+    noted: usize,
+    table: Vec<u8>,
+    names: Vec<u8>,
+}
+
+const MOST: usize = 128;
+
+impl Default for Cursor {
+    fn default() -> Self {
+        Self {
+            count: 0,
+            cursor: 0,
+            base: 0,
+            noted: 0,
+            table: vec![0; 16 * MOST],
+            names: vec![0; 33 * MOST],
+        }
+    }
+}
+
+impl Cursor {
+    pub fn begin(&mut self) {
+        (self.count, self.cursor, self.base, self.noted) = (0, 0, 0, 0);
+    }
+
+    pub fn scalar(&mut self, cat: &[u8], id: u16, type_id: u8, size: u16, name: &str) -> u8 {
+        unsafe {
+            owl_cursor_scalar(
+                cat.as_ptr(),
+                cat.len(),
+                self.table.as_mut_ptr(),
+                self.table.len(),
+                self.names.as_mut_ptr(),
+                self.names.len(),
+                MOST,
+                &mut self.count,
+                &mut self.cursor,
+                &mut self.base,
+                &mut self.noted,
+                id,
+                type_id,
+                size,
+                0,
+                0,
+                name.as_ptr(),
+                name.len(),
+            )
+        }
+    }
+
+    pub fn finish(&mut self, cat: &[u8], ids: &[u16]) -> u8 {
+        unsafe {
+            owl_cursor_finish(
+                cat.as_ptr(),
+                cat.len(),
+                self.table.as_mut_ptr(),
+                self.table.len(),
+                self.names.as_mut_ptr(),
+                self.names.len(),
+                MOST,
+                &mut self.count,
+                &mut self.cursor,
+                &mut self.base,
+                &mut self.noted,
+                ids.as_ptr(),
+                ids.len(),
+            )
+        }
+    }
+
+    pub fn ids_and_offsets(&self) -> impl Iterator<Item = (u16, u16)> + '_ {
+        let rows = self.table.chunks_exact(16).take(self.count);
+        rows.map(|r| {
+            (
+                u16::from_le_bytes([r[0], r[1]]),
+                u16::from_le_bytes([r[2], r[3]]),
+            )
+        })
     }
 }

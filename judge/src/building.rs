@@ -1,166 +1,170 @@
-//! Calls of dbn's field cursor, from case lines. Refusals 2, 14 and 15 are the port's: the judge states them where the Rust cannot
-//! take the call, panics, or passes a limit that only the port has; such a call is made on a copy, so that it leaves nothing.
-use crate::block;
+//! Calls of dbn's field cursor. The Rust has neither the limits nor refusals 2, 14 and 15: `refused_before` states 2 and 15 from the
+//! rules; a call that the Rust stops at, or that leaves more than the limits allow, is 14. Each is made on a copy, so that a refused one
+//! leaves nothing.
 use crate::layout::wire::builders::Cursor;
 use crate::layout::{FieldDef, StreamLayout};
 use crate::v4::fields::{scalar_size, FLAG_IS_ARRAY, STRUCT_ID};
-use crate::v4::types::{CStr, Char, Decimal, Symbol, TimestampNs};
 use std::panic::{catch_unwind, AssertUnwindSafe};
 
 const MOST_BYTES: u16 = 4096;
 const MOST_NAME: usize = 32;
-const HEAD: usize = 21;
+const MOST_FIELDS: usize = 128;
+const MOST_STRUCT_FIELDS: usize = 32;
+const STRINGS: [u8; 2] = [49, 50];
+const ROW: usize = 16;
+const SLOT: usize = 33;
 
-#[derive(Default)]
+pub enum Call<'a> {
+    Scalar(FieldDef, &'a str),
+    String(FieldDef, &'a str),
+    Like(FieldDef, &'a str),
+    /// How often the struct stands in an array, or none where it stands alone.
+    Nested(FieldDef, Option<u16>, &'a str),
+    At(usize),
+    FinishBase,
+    Finish(Vec<u16>),
+}
+
+use Call::*;
+
 pub struct Building {
     cursor: Cursor,
     most: usize,
-    /// What stands in the lent memory, field by field.
-    entries: Vec<String>,
+    /// What stands in the lent memory.
+    table: Vec<u8>,
+    names: Vec<u8>,
 }
 
-macro_rules! sized {
-    ($cursor:ident, $id:ident, $name:ident, $def:ident, $array:ident, $n:ident, $t:ty, $($k:literal)*) => {
-        match ($array, $n) {
-            (false, 1) => Some($cursor.scalar::<$t>($id, $name, $def)),
-            $((true, $k) => Some($cursor.scalar::<[$t; $k]>($id, $name, $def)),)*
-            _ => None,
+impl Default for Building {
+    fn default() -> Self {
+        Self {
+            cursor: Cursor::default(),
+            most: 0,
+            table: vec![0; ROW * MOST_FIELDS],
+            names: vec![0; SLOT * MOST_FIELDS],
         }
-    };
-}
-
-macro_rules! typed {
-    ($cursor:ident, $f:ident, $name:ident, $array:ident, $n:ident, $($type_id:literal: $t:ty,)*) => {{
-        let (id, def) = ($f.field_id, $f.def_index);
-        match $f.type_id {
-            $($type_id => sized!($cursor, id, $name, def, $array, $n, $t, 1 2 3 4 5 6 7 8 9 10),)*
-            _ => None,
-        }
-    }};
-}
-
-/// None where no type of the Rust has this id and size.
-fn scalar(c: &mut Cursor, f: &FieldDef, name: &str) -> Option<()> {
-    let width = scalar_size(f.type_id)?;
-    if f.size % width != 0 {
-        return None;
     }
-    let (array, n) = (f.flags & FLAG_IS_ARRAY != 0, f.size / width);
-    typed!(c, f, name, array, n,
-        1: u8, 2: u16, 3: u32, 4: u64, 17: i8, 18: i16, 19: i32, 20: i64, 33: Decimal, 96: Char, 104: f32, 105: f64, 106: TimestampNs,)
 }
 
-fn string(c: &mut Cursor, f: &FieldDef, name: &str) -> Option<()> {
-    match f.type_id {
-        49 => c.string::<CStr>(f.field_id, name, f.size),
-        50 => c.string::<Symbol>(f.field_id, name, f.size),
+// ---- what the port refuses before it places anything
+
+fn size_ok(f: &FieldDef) -> bool {
+    let free = f.flags & FLAG_IS_ARRAY != 0;
+    f.size != 0 && (free || scalar_size(f.type_id).is_none_or(|width| width == f.size))
+}
+
+fn nested_ok(l: &StreamLayout, k: u16, count: u16) -> bool {
+    let of = l.struct_layouts.get(usize::from(k));
+    of.is_some_and(|s| s.size != 0) && count != 0
+}
+
+fn refused_before(l: &StreamLayout, call: &Call) -> Option<&'static str> {
+    let (name, taken) = match call {
+        Scalar(f, name) => (name, scalar_size(f.type_id).is_some() && size_ok(f)),
+        String(f, name) => (name, STRINGS.contains(&f.type_id) && size_ok(f)),
+        Like(f, name) => (name, f.type_id != STRUCT_ID && size_ok(f)),
+        Nested(f, times, name) => (name, nested_ok(l, f.def_index, times.unwrap_or(1))),
         _ => return None,
+    };
+    if name.chars().count() > MOST_NAME {
+        return Some("r2");
     }
-    (f.size != 0).then_some(())
+    (!taken).then_some("r15")
 }
 
-fn like(c: &mut Cursor, f: &FieldDef, name: &str) -> Option<()> {
-    let plain = f.flags & FLAG_IS_ARRAY == 0;
-    let wrong = plain && scalar_size(f.type_id).is_some_and(|w| w != f.size);
-    if f.type_id == STRUCT_ID || f.size == 0 || wrong {
-        return None;
-    }
-    c.like(f, name);
-    Some(())
-}
+// ---- the Rust's calls
 
-fn nested(c: &mut Cursor, l: &StreamLayout, f: &FieldDef, name: &str, array: bool) -> Option<()> {
-    let of = l.struct_layouts.get(usize::from(f.def_index))?;
-    let (count, flags) = if array { (f.size, FLAG_IS_ARRAY) } else { (1, 0) };
-    if of.size == 0 || count == 0 {
-        return None;
-    }
-    let size = of.size.checked_mul(count).expect("too large");
+fn nested(c: &mut Cursor, l: &StreamLayout, f: &FieldDef, times: Option<u16>, name: &str) {
+    let of = &l.struct_layouts[usize::from(f.def_index)];
+    let flags = if times.is_some() { FLAG_IS_ARRAY } else { 0 };
+    let size = of.size.checked_mul(times.unwrap_or(1));
+    let size = size.expect("struct array size exceeds u16");
     c.nested(f.field_id, name, f.def_index, size, of.align(), flags);
-    Some(())
 }
 
-fn ids(bytes: &[u8]) -> Vec<u16> {
-    let pairs = bytes.chunks_exact(2).take(64);
-    pairs.map(|b| u16::from_le_bytes([b[0], b[1]])).collect()
-}
-
-fn called(c: &mut Cursor, l: &StreamLayout, call: &[u8]) -> Option<()> {
-    let f = &block::fields(&call[1..17])[0];
-    let name = &block::text(&call[HEAD..]);
-    let number = u32::from_le_bytes(call[17..HEAD].try_into().unwrap()) as usize;
-    match call[0] {
-        0 => scalar(c, f, name),
-        1 => string(c, f, name),
-        2 => like(c, f, name),
-        3 | 4 => nested(c, l, f, name, call[0] == 4),
-        5 => {
-            c.at(number);
-            Some(())
-        }
-        6 => {
-            c.finish_base();
-            Some(())
-        }
-        _ => {
-            c.finish(&ids(&call[HEAD..]));
-            Some(())
-        }
+fn called(c: &mut Cursor, l: &StreamLayout, call: &Call) {
+    match call {
+        Scalar(f, name) => c.scalar(f, name),
+        String(f, name) => c.string(f, name),
+        Like(f, name) => c.like(f, name),
+        Nested(f, times, name) => nested(c, l, f, *times, name),
+        At(offset) => c.at(*offset),
+        FinishBase => drop(c.finish_base()),
+        Finish(ids) => drop(c.finish(ids)),
     }
 }
 
-fn entry(f: &FieldDef, name: &str) -> String {
-    let mut b = Vec::new();
-    b.extend(f.field_id.to_le_bytes());
-    b.extend(f.offset.to_le_bytes());
-    b.extend(f.size.to_le_bytes());
-    b.extend([f.type_id, f.flags]);
-    b.extend(f.def_index.to_le_bytes());
-    b.extend([f.scale as u8, 0, 0, 0, 0, 0, name.chars().count() as u8]);
-    b.extend(name.chars().map(|c| c as u8));
-    b.resize(49, 0);
-    b.iter().map(|x| format!("{x:02x}")).collect()
+// ---- answers
+
+fn row(f: &FieldDef) -> [u8; ROW] {
+    let mut b = [0; ROW];
+    b[0..2].copy_from_slice(&f.field_id.to_le_bytes());
+    b[2..4].copy_from_slice(&f.offset.to_le_bytes());
+    b[4..6].copy_from_slice(&f.size.to_le_bytes());
+    b[6] = f.type_id;
+    b[7] = f.flags;
+    b[8..10].copy_from_slice(&f.def_index.to_le_bytes());
+    b[10] = f.scale as u8;
+    b
+}
+
+/// A character is the byte of its number (`block::text`).
+fn slot(name: &str) -> [u8; SLOT] {
+    let mut b = [0; SLOT];
+    for (to, c) in b[1..].iter_mut().zip(name.chars()) {
+        *to = c as u8;
+    }
+    b[0] = name.chars().count() as u8;
+    b
+}
+
+fn hex(bytes: &[u8]) -> std::string::String {
+    bytes.iter().map(|b| format!("{b:02x}")).collect()
 }
 
 impl Building {
-    pub fn begin(&mut self, holder: &str) -> String {
+    pub fn begin(&mut self, holder: &str) -> Option<std::string::String> {
+        self.most = match holder {
+            "record" => MOST_FIELDS,
+            "struct" => MOST_STRUCT_FIELDS,
+            _ => return None,
+        };
         self.cursor = Cursor::default();
-        self.most = if holder == "struct" { 32 } else { 128 };
-        "ok".to_owned()
+        Some("ok".to_owned())
     }
 
-    fn remember(&mut self) {
-        let all = self.cursor.fields().iter().zip(self.cursor.names());
-        for (k, (f, name)) in all.enumerate() {
-            self.entries[k] = entry(f, name);
+    fn state(&self) -> std::string::String {
+        let c = &self.cursor;
+        let base = c.base().map_or("-".to_owned(), |base| base.to_string());
+        format!("{} {} {base}", c.fields().len(), c.cursor())
+    }
+
+    /// The table and the names as a host has them behind the call.
+    fn lend(&mut self) {
+        for (f, to) in self.cursor.fields().iter().zip(self.table.chunks_mut(ROW)) {
+            to.copy_from_slice(&row(f));
+        }
+        for (name, to) in self.cursor.names().iter().zip(self.names.chunks_mut(SLOT)) {
+            to.copy_from_slice(&slot(name));
         }
     }
 
-    pub fn entry(&mut self, k: usize) -> Option<String> {
-        self.entries.resize(128, "00".repeat(49));
-        self.entries.get(k).cloned()
-    }
-
-    pub fn call(&mut self, l: &StreamLayout, call: &[u8]) -> Option<String> {
-        if call.len() < HEAD {
-            return None;
-        }
-        if call[0] < 5 && call.len() - HEAD > MOST_NAME {
-            return Some("r2".to_owned());
+    pub fn call(&mut self, l: &StreamLayout, call: &Call) -> std::string::String {
+        if let Some(refusal) = refused_before(l, call) {
+            return refusal.to_owned();
         }
         let mut next = self.cursor.clone();
-        match catch_unwind(AssertUnwindSafe(|| called(&mut next, l, call))) {
-            Ok(None) => return Some("r15".to_owned()),
-            Err(_) => return Some("r14".to_owned()),
-            Ok(Some(())) => {}
-        }
-        if next.cursor() > MOST_BYTES || next.fields().len() > self.most {
-            return Some("r14".to_owned());
+        let went = catch_unwind(AssertUnwindSafe(|| called(&mut next, l, call))).is_ok();
+        if !went || next.cursor() > MOST_BYTES || next.fields().len() > self.most {
+            return "r14".to_owned();
         }
         self.cursor = next;
-        self.entries.resize(128, "00".repeat(49));
-        self.remember();
-        let c = &self.cursor;
-        Some(format!("{} {} {}", c.fields().len(), c.cursor(), c.base()))
+        self.lend();
+        self.state()
+    }
+
+    pub fn built(&self, k: usize) -> Option<std::string::String> {
+        let (table, names) = (self.table.get(..ROW * k)?, self.names.get(..SLOT * k)?);
+        Some(format!("{} {} {}", self.state(), hex(table), hex(names)))
     }
 }

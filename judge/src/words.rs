@@ -1,6 +1,7 @@
 //! What each word asks: a function for each takes the words after it and answers, or answers nothing where they are malformed.
 use crate::layout::{wire, RecordLayout, StreamLayout};
 
+mod building;
 mod comparing;
 
 /// What earlier lines stated.
@@ -36,9 +37,16 @@ const WORDS: &[(&str, usize, Ask)] = &[
     ("hash", 1, hash),
     ("sum", 1, sum),
     ("window", 3, window),
-    ("begin", 1, begin),
-    ("call", 1, call),
-    ("entry", 1, entry),
+    ("begin", 1, building::begin),
+    ("scalar", 2, building::scalar),
+    ("string", 2, building::string),
+    ("like", 2, building::like),
+    ("nested", 2, building::nested),
+    ("nested_array", 2, building::nested_array),
+    ("at", 1, building::at),
+    ("finish_base", 0, building::finish_base),
+    ("finish", 1, building::finish),
+    ("built", 1, building::built),
     ("verdict", 2, comparing::verdict),
     ("verdict_of", 2, comparing::verdict_of),
     ("by_id", 2, comparing::by_id),
@@ -119,18 +127,4 @@ fn sum(_kept: &mut Kept, words: &[&str]) -> Answer {
 fn window(_kept: &mut Kept, words: &[&str]) -> Answer {
     let (bytes, offset, size) = (hex(words[0])?, number(words[1])?, number(words[2])?);
     or_none(wire::window(&bytes, offset, size).map(|(start, end)| format!("{start} {end}")))
-}
-
-// ---- the field cursor
-
-fn begin(kept: &mut Kept, words: &[&str]) -> Answer {
-    Some(kept.building.begin(words[0]))
-}
-
-fn call(kept: &mut Kept, words: &[&str]) -> Answer {
-    kept.building.call(&kept.layout, &hex(words[0])?)
-}
-
-fn entry(kept: &mut Kept, words: &[&str]) -> Answer {
-    kept.building.entry(number(words[0])?)
 }

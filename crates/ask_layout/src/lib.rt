@@ -68,4 +68,3 @@ pub fn asked(line: &[u8], cat: &[u8], layout: &[u8], table: &mut Table, out: &mu
     }
     0
 }
-

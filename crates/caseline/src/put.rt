@@ -66,3 +66,15 @@ pub fn hex(out: &mut [u8], at: usize, n: u64) -> usize {
     }
     text(out, at, &digits)
 }
+
+// Bytes, two digits each.
+pub fn octets(out: &mut [u8], at: usize, bytes: &[u8]) -> usize {
+    let mut end = at;
+    let mut i = 0;
+    while i < bytes.len() {
+        end = byte(out, end, hex_digit(bytes[i] / 16));
+        end = byte(out, end, hex_digit(bytes[i] % 16));
+        i += 1;
+    }
+    end
+}

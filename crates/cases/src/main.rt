@@ -3,6 +3,9 @@ mod input;
 mod kept;
 mod words;
 
+use ask_cursor::Rows;
+use ask_cursor::Slots;
+use ask_cursor::State;
 use kept::Catalogue;
 use kept::Room;
 use kept::Sizes;
@@ -32,14 +35,27 @@ fn answered(
     layout: &mut Table,
     table: &mut Table,
     sizes: &mut Sizes,
+    state: &mut State,
+    rows: &mut Rows,
+    slots: &mut Slots,
 ) {
     if is_echoed(line) {
         io::write_all(STDOUT_FILENO, line);
         io::write_all(STDOUT_FILENO, b"\n");
         return;
     }
-    let mut out = [0u8; 256];
-    let n = words::answer(line, cat, layout, table, sizes, &mut out);
+    let mut out = [0u8; 16384];
+    let n = words::answer(
+        line,
+        cat,
+        layout,
+        table,
+        sizes,
+        state,
+        rows,
+        slots,
+        &mut out,
+    );
     let end = caseline::put::byte(&mut out, n, NEWLINE);
     io::write_all(STDOUT_FILENO, lent::part(&out, 0, end));
 }
@@ -51,11 +67,23 @@ fn whole_lines(
     layout: &mut Table,
     table: &mut Table,
     sizes: &mut Sizes,
+    state: &mut State,
+    rows: &mut Rows,
+    slots: &mut Slots,
 ) -> usize {
     let mut at = 0;
     let mut end = caseline::find(bytes, at, NEWLINE);
     while end < bytes.len() {
-        answered(&bytes[at..end], cat, layout, table, sizes);
+        answered(
+            &bytes[at..end],
+            cat,
+            layout,
+            table,
+            sizes,
+            state,
+            rows,
+            slots,
+        );
         at = end + 1;
         end = caseline::find(bytes, at, NEWLINE);
     }
@@ -70,15 +98,36 @@ fn turn(
     layout: &mut Table,
     table: &mut Table,
     sizes: &mut Sizes,
+    state: &mut State,
+    rows: &mut Rows,
+    slots: &mut Slots,
 ) -> Step {
     let have = input::more(room, waiting);
     if have == waiting {
         if have != 0 {
-            answered(lent::part(room, 0, have), cat, layout, table, sizes);
+            answered(
+                lent::part(room, 0, have),
+                cat,
+                layout,
+                table,
+                sizes,
+                state,
+                rows,
+                slots,
+            );
         }
         return Step::End;
     }
-    let rest = whole_lines(lent::part(room, 0, have), cat, layout, table, sizes);
+    let rest = whole_lines(
+        lent::part(room, 0, have),
+        cat,
+        layout,
+        table,
+        sizes,
+        state,
+        rows,
+        slots,
+    );
     let left = input::to_front(room, rest, have);
     Step::Waiting(input::without_long(room, left))
 }
@@ -90,11 +139,14 @@ fn run(
     layout: &mut Table,
     table: &mut Table,
     sizes: &mut Sizes,
+    state: &mut State,
+    rows: &mut Rows,
+    slots: &mut Slots,
 ) {
     let mut waiting = 0;
     let mut turns = u64::MAX;
     while turns > 0 {
-        match turn(room, waiting, cat, layout, table, sizes) {
+        match turn(room, waiting, cat, layout, table, sizes, state, rows, slots) {
             Step::Waiting(n) => waiting = n,
             Step::End => return,
         }
@@ -108,5 +160,17 @@ fn main() {
     let mut layout = [0u8; 32768];
     let mut table = [0u8; 32768];
     let mut sizes = [0usize; 2];
-    run(&mut room, &mut cat, &mut layout, &mut table, &mut sizes);
+    let mut state = [0usize; 5];
+    let mut rows = [0u8; 2048];
+    let mut slots = [0u8; 4224];
+    run(
+        &mut room,
+        &mut cat,
+        &mut layout,
+        &mut table,
+        &mut sizes,
+        &mut state,
+        &mut rows,
+        &mut slots,
+    );
 }

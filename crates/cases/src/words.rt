@@ -3,6 +3,9 @@ use crate::kept;
 use crate::kept::Catalogue;
 use crate::kept::Sizes;
 use crate::kept::Table;
+use ask_cursor::Rows;
+use ask_cursor::Slots;
+use ask_cursor::State;
 use caseline::Parsed;
 use caseline::answer;
 
@@ -68,6 +71,9 @@ pub fn answer(
     layout: &mut Table,
     table: &mut Table,
     sizes: &mut Sizes,
+    state: &mut State,
+    rows: &mut Rows,
+    slots: &mut Slots,
     out: &mut [u8],
 ) -> usize {
     let word = caseline::word(line, 0);
@@ -78,11 +84,10 @@ pub fn answer(
     if check::same(word, b"layout") {
         return keep_layout(line, whole, layout, sizes, out);
     }
-    asked(
-        line,
-        whole,
-        lent::part(layout, 0, sizes[kept::LAYOUT_AT]),
-        table,
-        out,
-    )
+    let block = lent::part(layout, 0, sizes[kept::LAYOUT_AT]);
+    let of_cursor = ask_cursor::asked(line, whole, block, table, state, rows, slots, out);
+    if of_cursor != 0 {
+        return of_cursor;
+    }
+    asked(line, whole, block, table, out)
 }

@@ -6,6 +6,7 @@ use Rattle.admission.specs.Admission.{admitCatalogue, admitOf, statusOf}
 use Rattle.admission.specs.declared.Admitted.{Admitted}
 use Rattle.tuppenceowl.specs.Answers.{sizedOf, windowedOf, foundOf, summedOf, bootedOf, summedStatus, hashOr, visitsOr}
 use Rattle.tuppenceowl.specs.Comparing.{judgedOf, judgedRtype, judgedStatus, foundById, foundByName}
+use Rattle.tuppenceowl.specs.Hosted.{Told, Hosted, hosted}
 use Rattle.tuppenceowl.specs.declared.comparing.Judged.{Judged}
 use Rattle.crc64.specs.Avro.{fingerprint}
 use Rattle.limits.specs.Limits.{defaultBudget}
@@ -75,6 +76,13 @@ module _ (promised : Outcome) where
   cursor-call-unique r s t n u m p q =
       let z : outcome r t n ≡ outcome s u m = equal p q in
       (ap (λ (o : Outcome). o .answer) z, ap (λ (o : Outcome). o .table) z, ap (λ (o : Outcome). o .names) z)
+
+-- for hosts: the status and the four numbers, the table and the names
+module _ (promised : Hosted) where
+  pub owl-cursor-unique : (a b : Told) (t n u m : List ℕ) → hosted a t n ≡ promised → hosted b u m ≡ promised → (a ≡ b) × (t ≡ u) × (n ≡ m)
+  owl-cursor-unique a b t n u m p q =
+      let z : hosted a t n ≡ hosted b u m = equal p q in
+      (ap (λ (h : Hosted). h .numbers) z, ap (λ (h : Hosted). h .table) z, ap (λ (h : Hosted). h .names) z)
 
 -- ---- the verdict and the lookups
 

@@ -2,6 +2,20 @@
 use super::{FieldCursor, Nested};
 use crate::layout::FieldDef;
 use crate::v4::fields::{Field, FieldType, FixedWidth};
+use crate::v4::types::*;
+
+macro_rules! scalar_of {
+    ($cursor:expr, $f:ident, $name:ident, $($t:ty)*) => {
+        match $f.type_id {
+            $(<$t as FieldType>::TYPE_ID => $cursor.scalar(
+                Field::<$t>::stated($f.field_id, $f.size, $f.flags),
+                $name,
+                $f.def_index,
+            ),)*
+            _ => unreachable!(),
+        }
+    };
+}
 
 pub struct Cursor(FieldCursor);
 
@@ -12,12 +26,25 @@ impl Default for Cursor {
 }
 
 impl Cursor {
-    pub fn scalar<T: FixedWidth>(&mut self, id: u16, name: &str, def_index: u16) {
-        self.0.scalar(Field::<T>::new(id), name, def_index)
+    /// The type decides which call of the Rust is made; size and flags are those that its `Field` states.
+    pub fn scalar(&mut self, f: &FieldDef, name: &str) {
+        scalar_of!(self.0, f, name,
+            u8 u16 u32 u64 i8 i16 i32 i64 Decimal Char f32 f64 TimestampNs
+            Enum16 EnumChar Enum8 BitSet8 BitSet16 BitSet32 BitSet64)
     }
 
-    pub fn string<T: FieldType>(&mut self, id: u16, name: &str, width: u16) {
-        self.0.string(Field::<T>::new(id), name, width)
+    /// As a host of the Rust calls it: the type is known.
+    pub fn typed<T: FixedWidth>(&mut self, id: u16, name: &str) {
+        self.0.scalar(Field::<T>::new(id), name, 0)
+    }
+
+    pub fn string(&mut self, f: &FieldDef, name: &str) {
+        let (id, size, flags) = (f.field_id, f.size, f.flags);
+        if f.type_id == CStr::TYPE_ID {
+            self.0.string(Field::<CStr>::stated(id, size, flags), name, size)
+        } else {
+            self.0.string(Field::<Symbol>::stated(id, size, flags), name, size)
+        }
     }
 
     pub fn like(&mut self, def: &FieldDef, name: &str) {
@@ -60,8 +87,8 @@ impl Cursor {
         self.0.cursor
     }
 
-    pub fn base(&self) -> u16 {
-        self.0.base.unwrap_or(0)
+    pub fn base(&self) -> Option<u16> {
+        self.0.base
     }
 }
 

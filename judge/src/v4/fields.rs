@@ -1,5 +1,5 @@
 //! Type ids, flags and field ids: those of the catalogue in tests/model.py, so that one catalogue fits both sides.
-use super::types::{CStr, Char, Decimal, Labels, Symbol, TimestampNs};
+use super::types::*;
 use super::RecordHeader;
 use std::{cell::RefCell, collections::HashMap, marker::PhantomData};
 
@@ -86,6 +86,13 @@ scalars! {
     f32: 104, 4;
     f64: 105, 8;
     TimestampNs: 106, 8;
+    Enum16: 97, 2;
+    EnumChar: 98, 1;
+    Enum8: 99, 1;
+    BitSet8: 100, 1;
+    BitSet16: 101, 2;
+    BitSet32: 102, 4;
+    BitSet64: 103, 8;
 }
 
 macro_rules! read_whole {
@@ -129,17 +136,13 @@ pub(crate) const fn uses_label_def(type_id: u8) -> bool {
 
 /// The width that the catalogue gives an id; none where that is 0.
 pub(crate) const fn scalar_size(type_id: u8) -> Option<u16> {
-    match type_id {
-        ENUM_CHAR_ID | ENUM_8_ID | BIT_SET_8_ID => Some(1),
-        ENUM_16_ID | BIT_SET_16_ID => Some(2),
-        BIT_SET_32_ID => Some(4),
-        BIT_SET_64_ID => Some(8),
-        _ => width_of_type(type_id),
-    }
+    width_of_type(type_id)
 }
 
 pub struct Field<T> {
     id: u16,
+    /// Size and flags that a case states instead of the type's.
+    stated: Option<(u16, u8)>,
     typed: PhantomData<T>,
 }
 
@@ -155,6 +158,15 @@ impl<T> Field<T> {
     pub const fn new(id: u16) -> Self {
         Self {
             id,
+            stated: None,
+            typed: PhantomData,
+        }
+    }
+
+    pub const fn stated(id: u16, size: u16, flags: u8) -> Self {
+        Self {
+            id,
+            stated: Some((size, flags)),
             typed: PhantomData,
         }
     }
@@ -170,17 +182,20 @@ impl<T: FieldType> Field<T> {
     }
 
     pub const fn flags(&self) -> u8 {
-        if T::ARRAY_WIRE_SIZE.is_some() {
-            FLAG_IS_ARRAY
-        } else {
-            0
+        match (self.stated, T::ARRAY_WIRE_SIZE) {
+            (Some((_, flags)), _) => flags,
+            (None, Some(_)) => FLAG_IS_ARRAY,
+            (None, None) => 0,
         }
     }
 }
 
 impl<T: FixedWidth> Field<T> {
     pub const fn size(&self) -> u16 {
-        T::WIRE_SIZE
+        match self.stated {
+            Some((size, _)) => size,
+            None => T::WIRE_SIZE,
+        }
     }
 }
 
