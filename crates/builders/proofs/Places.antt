@@ -1,17 +1,16 @@
 -- A field is placed: the cases of the tests. Assumes nothing.
-use mathlib.Core.Path.{_≡_, refl, sym, ap, _∙_}
-use mathlib.Core.Bool.{Bool, true, false, cond, _&&_}
-use mathlib.Core.List.{List, []}
-use Prim.Native.Nat.{ℕ, _+_, _-_, _*_, _≤_, _<_}
+use mathlib.Core.Path.{_≡_, refl, ap, _∙_}
+use mathlib.Core.Bool.{Bool, true, false, _&&_}
+use mathlib.Core.List.{List}
+use Prim.Native.Nat.{ℕ, _+_, _*_, _≤_, _<_}
 use native.Mathlib.Omega.{arith}
 use borrow.Author.Tests.{le-leb, lt-leb}
-use lib.Dec.{leb}
 use lib.ListN.{length}
-use Rattle.limits.specs.Limits.{maxBytes}
+use Rattle.limits.specs.Limits.{maxBytes, maxFields, maxName}
 use Rattle.limits.specs.declared.refusal.Refusal.the-variants.{BadShape, CursorFull, BadCall}
 use Rattle.field.specs.Field.{endOf}
 use Rattle.field.specs.declared.FieldDef.{FieldDef}
-use Rattle.builders.specs.Cursor.{Building, building, Outcome, outcome, done, refuse, alignUp, push, padTo, gaps, room, fits, sizeOk, laid, lay, place}
+use Rattle.builders.specs.Cursor.{Building, building, outcome, done, refuse, alignUp, push, padTo, gaps, room, fits, sizeOk, laid, lay, place}
 use Rattle.builders.proofs.Align.{up-from}
 use Rattle.builders.proofs.Rooms.{padded}
 use Rattle.builders.specs.declared.FieldCursor.{FieldCursor}
@@ -24,7 +23,7 @@ both-false false = refl
 module _ (cat : List ℕ) (b : Building) where
   -- behind the padding there is room for the field
   pub then-push : (to : ℕ) (p : FieldCursor) (t n : List ℕ) → building p t n ≡ padTo cat to b → (gaps (b .state) to + 1) + b .state .count ≤ room b
-      → (p .count < 128) × (16 * p .count + 16 ≤ length t) × (33 * p .count + 33 ≤ length n)
+      → (p .count < maxFields) × (16 * p .count + 16 ≤ length t) × (33 * p .count + 33 ≤ length n)
   then-push to p t n e h =
       let ec : p .count ≡ gaps (b .state) to + b .state .count = ap (λ (d : Building). d .state .count) e ∙ padded cat to b .0 in
       let et : length t ≡ length (b .table) = ap (λ (d : Building). length (d .table)) e ∙ padded cat to b .1 in
@@ -47,21 +46,21 @@ module _ (cat : List ℕ) (b : Building) where
 
     -- a cursor past the limit
     module _ (align : ℕ) where
-      pub past : 4096 < b .state .cursor → refuse CursorFull b ≡ lay cat (laid cat (b .state) align f) name b
+      pub past : maxBytes < b .state .cursor → refuse CursorFull b ≡ lay cat (laid cat (b .state) align f) name b
       unfolding lay laid
       past h =
           let z : maxBytes < alignUp (b .state .cursor) align + f .size = omega (arith, up-from (b .state .cursor) align) in
           rw (lt-leb (alignUp (b .state .cursor) align + f .size) maxBytes z, both-false)
 
       module _ (takes : Bool) where
-        pub places-it : length name ≤ 32 → (takes && sizeOk cat f) ≡ true → lay cat (laid cat (b .state) align f) name b ≡ place cat takes align f name b
+        pub places-it : length name ≤ maxName → (takes && sizeOk cat f) ≡ true → lay cat (laid cat (b .state) align f) name b ≡ place cat takes align f name b
         unfolding place
-        places-it h e = rw (le-leb (length name) 32 h, e)
+        places-it h e = rw (le-leb (length name) maxName h, e)
 
-        pub bad-call : length name ≤ 32 → (takes && sizeOk cat f) ≡ false → refuse BadCall b ≡ place cat takes align f name b
+        pub bad-call : length name ≤ maxName → (takes && sizeOk cat f) ≡ false → refuse BadCall b ≡ place cat takes align f name b
         unfolding place
-        bad-call h e = rw (le-leb (length name) 32 h, e)
+        bad-call h e = rw (le-leb (length name) maxName h, e)
 
-        pub bad-shape : 32 < length name → refuse BadShape b ≡ place cat takes align f name b
+        pub bad-shape : maxName < length name → refuse BadShape b ≡ place cat takes align f name b
         unfolding place
-        bad-shape h = rw (lt-leb (length name) 32 h)
+        bad-shape h = rw (lt-leb (length name) maxName h)

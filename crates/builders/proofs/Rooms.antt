@@ -1,23 +1,21 @@
 -- What the test of room gives. Assumes nothing.
-use mathlib.Core.Path.{_≡_, refl, sym, ap, _∙_}
+use mathlib.Core.Path.{_≡_, refl, ap}
 use mathlib.Core.Bool.{Bool, true, false, cond, _&&_}
 use mathlib.Core.List.{List, []}
-use Prim.Native.Nat.{ℕ, _+_, _-_, _*_, _≤_, _<_}
+use Prim.Native.Nat.{ℕ, _+_, _-_, _≤_, _<_}
 use native.Mathlib.Omega.{arith}
-use borrow.Author.Tests.{le-leb, lt-leb, le-ltb, lt-ltb, leb-true}
+use borrow.Author.Tests.{le-leb, lt-leb, leb-true}
 use lib.Dec.{leb, ltb}
 use lib.ListN.{length}
 use lib.Seq.{length-sets}
 use Rattle.lent.proofs.Scan.{both}
 use Rattle.limits.specs.Limits.{maxBytes}
 use Rattle.limits.specs.declared.refusal.Refusal.the-variants.{CursorFull}
-use Rattle.field.specs.Field.{endOf}
-use Rattle.field.specs.declared.FieldDef.{FieldDef}
-use Rattle.builders.specs.Cursor.{Building, building, Outcome, outcome, done, refuse, paddingField, push, padTo, gaps, room, fits, moveTo, lay}
+use Rattle.builders.specs.Cursor.{Building, building, outcome, done, refuse, paddingField, push, padTo, gaps, fits, moveTo}
 use Rattle.builders.specs.declared.FieldCursor.{FieldCursor}
-use Rattle.builders.specs.declared.Placed.the-variants.{At, Refused}
+use Rattle.builders.specs.declared.Placed.the-variants.{At}
 
-pub room-there : (n count most end : ℕ) → (leb (n + count) most && leb end maxBytes) ≡ true → (n + count ≤ most) × (end ≤ 4096)
+pub room-there : (n count most end : ℕ) → (leb (n + count) most && leb end maxBytes) ≡ true → (n + count ≤ most) × (end ≤ maxBytes)
 room-there n count most end e =
     let z = both (leb (n + count) most) (leb end maxBytes) e in
     (leb-true (n + count) most (z .0), leb-true end maxBytes (z .1))

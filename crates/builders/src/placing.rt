@@ -138,7 +138,7 @@ fn flags_after(cat: &[u8], c: FieldCursor, f: FieldDef) -> u8
 
 // The field where it comes to lie.
 fn laid_field(cat: &[u8], c: FieldCursor, align: usize, f: FieldDef) -> FieldDef
-    requires { ⌜ (c .cursor ≤ 4096) × (align < 16) ⌝ }
+    requires { ⌜ (c .cursor ≤ maxBytes) × (align < 16) ⌝ }
     ensures { λ r. ⌜ r ≡ laid (now (cat .entry)) c align f ⌝ }
 {
     FieldDef {
@@ -162,7 +162,7 @@ fn lay(
     f: FieldDef,
     name: &[u8],
 ) -> Placed
-    requires { ⌜ length (now name) ≤ 32 ⌝ }
+    requires { ⌜ length (now name) ≤ maxName ⌝ }
     ensures { λ r. ⌜ outcome r (now (table .exit)) (now (names .exit)) ≡ lay (now (cat .entry)) f (now (name .entry)) (building c (now (table .entry)) (now (names .entry))) ⌝ }
 {
     let to = lent::wide16(f.offset);

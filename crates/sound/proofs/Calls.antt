@@ -1,10 +1,10 @@
 -- Each call keeps a building sound, whatever it is given. Assumes nothing.
 use mathlib.Core.Path.{_≡_, refl, sym, ap, _∙_}
-use mathlib.Core.Bool.{Bool, true, false, cond, not, _&&_, _||_}
+use mathlib.Core.Bool.{Bool, true, false, cond, not, _&&_}
 use mathlib.Core.List.{List, [], _∷_, _++_}
-use Prim.Native.Nat.{ℕ, zero, suc, _+_, _-_, _*_, _≤_, _<_}
+use Prim.Native.Nat.{ℕ, _+_, _-_, _*_, _≤_, _<_}
 use native.Mathlib.Omega.{arith}
-use borrow.Author.Tests.{le-leb, leb-true, ltb-true, ltb-false, not-true, eqb-false}
+use borrow.Author.Tests.{le-leb, leb-true, ltb-true, ltb-false}
 use lib.Bits.{bitAnd, bitOr}
 use lib.Dec.{leb, ltb, eqb}
 use lib.ListN.{length, replicate, length-replicate}
@@ -20,8 +20,8 @@ use Rattle.field.specs.Field.{fieldAt, endOf}
 use Rattle.field.specs.declared.FieldDef.{FieldDef}
 use Rattle.table.specs.Table.{widthOk}
 use Rattle.layout.specs.declared.block.Holder.{Holder}
-use Rattle.builders.specs.Cursor.{Building, building, Outcome, outcome, done, refuse, fresh, rowOf, slotOf, push, paddingField, padTo, gaps, room, fits, moveTo, alignUp, sizeOk, flagsAfter, laid, lay, place}
-use Rattle.calls.specs.Calls.{noted, notedIn, notedAll, baseEnd, finishBaseOf, endedOf}
+use Rattle.builders.specs.Cursor.{Building, building, Outcome, done, refuse, fresh, rowOf, slotOf, push, paddingField, padTo, gaps, room, fits, moveTo, alignUp, sizeOk, flagsAfter, laid, lay, place}
+use Rattle.calls.specs.Calls.{notedIn, notedAll, baseEnd, finishBaseOf, endedOf}
 use Rattle.builders.proofs.Align.{up-from}
 use Rattle.builders.proofs.Stores.{slot-length}
 use Rattle.builders.proofs.Rooms.{room-there, padded}
@@ -166,10 +166,10 @@ module _ (cat : List ℕ) (holder : Holder) where
       pub move-sound : (to : ℕ) → Sound cat holder (after b (moveTo cat to b))
       unfolding moveTo
       move-sound to = go (leb (b .state .cursor) to && fits (gaps (b .state) to) to b) found where
-        found : (leb (b .state .cursor) to && fits (gaps (b .state) to) to b) ≡ true → (gaps (b .state) to + b .state .count ≤ room b) × (to ≤ 4096)
+        found : (leb (b .state .cursor) to && fits (gaps (b .state) to) to b) ≡ true → (gaps (b .state) to + b .state .count ≤ room b) × (to ≤ maxBytes)
         found e = room-there (gaps (b .state) to) (b .state .count) (room b) to (both (leb (b .state .cursor) to) (fits (gaps (b .state) to) to b) e .1)
 
-        go : (p : Bool) → (p ≡ true → (gaps (b .state) to + b .state .count ≤ room b) × (to ≤ 4096))
+        go : (p : Bool) → (p ≡ true → (gaps (b .state) to + b .state .count ≤ room b) × (to ≤ maxBytes))
             → Sound cat holder (after b (cond p (done (padTo cat to b)) (refuse CursorFull b)))
         go true h = pad-sound to (h refl .1) (h refl .0)
         go false h = s
@@ -187,7 +187,7 @@ module _ (cat : List ℕ) (holder : Holder) where
         unfolding lay
         lay-sound short-name low sized width =
             go (fits (gaps (b .state) (f .offset) + 1) (endOf f) b) (room-there (gaps (b .state) (f .offset) + 1) (b .state .count) (room b) (endOf f)) where
-              go : (p : Bool) → (p ≡ true → (gaps (b .state) (f .offset) + 1 + b .state .count ≤ room b) × (endOf f ≤ 4096))
+              go : (p : Bool) → (p ≡ true → (gaps (b .state) (f .offset) + 1 + b .state .count ≤ room b) × (endOf f ≤ maxBytes))
                   → Sound cat holder (after b (cond p (done (push f name (padTo cat (f .offset) b))) (refuse CursorFull b)))
               go true h =
                   let r = h refl .0 in

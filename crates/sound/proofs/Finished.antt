@@ -1,36 +1,34 @@
 -- A sound building is admitted and covers its bytes once, also after finish. Assumes nothing.
 use mathlib.Core.Path.{_≡_, refl, sym, ap, _∙_}
-use mathlib.Core.Bool.{Bool, true, false, cond, not, _&&_}
+use mathlib.Core.Bool.{Bool, true, _&&_}
 use mathlib.Core.List.{List, [], _∷_, _++_, map}
-use Prim.Native.Nat.{ℕ, zero, suc, _+_, _-_, _*_, _≤_, _<_}
+use Prim.Native.Nat.{ℕ, zero, suc, _+_, _*_, _≤_, _<_}
 use native.Mathlib.Nat.{mul-suc, mul-zero}
 use native.Mathlib.Numerals.{add-one}
 use native.Mathlib.Omega.{arith}
 use borrow.Author.Tests.{ltb-true}
-use lib.Dec.{leb, ltb}
-use lib.ListN.{length, getD, take, drop, length-take, length-drop}
+use lib.ListN.{length, drop, length-take, length-drop}
 use lib.Seq.{sets, length-sets, getD-take, getD-drop}
 use Rattle.lent.specs.Bytes.{byteAt, window}
-use Rattle.lent.specs.Scan.{gather, every, tally, places}
+use Rattle.lent.specs.Scan.{gather, every, places}
 use Rattle.lent.proofs.Scan.{both}
 use Rattle.lent.proofs.Stored.{get-below, get-in}
 use Rattle.catalogue.specs.Catalogue.{catalogueOk}
-use Rattle.field.specs.Field.{fieldAt, fieldsOf, endOf}
+use Rattle.field.specs.Field.{fieldAt, fieldsOf}
 use Rattle.field.specs.declared.FieldDef.{FieldDef}
-use Rattle.order.specs.Order.{insertBy, sortBy}
+use Rattle.order.specs.Order.{sortBy}
 use Rattle.order.proofs.Kept.{every-sorted, tally-sorted, length-sorted}
 use Rattle.order.proofs.Mapped.{in-order, places-map}
 use Rattle.table.proofs.Chained.{apart-sorted, chain-apart}
-use Rattle.table.specs.Table.{reservedZero, inBounds, widthOk, apart, tableOk}
+use Rattle.table.specs.Table.{reservedZero, inBounds, widthOk, tableOk}
 use Rattle.table.specs.declared.Rule.{Rule}
 use Rattle.table.specs.declared.Rule.the-variants.{Reserved, Bounds, Apart, Width}
 use Rattle.layout.specs.declared.block.Holder.{Holder}
-use Rattle.builders.specs.Cursor.{Building, building, Outcome, outcome, room, fieldLimit}
+use Rattle.builders.specs.Cursor.{Building, building, Outcome, room}
 use Rattle.calls.specs.Calls.{endedOf}
 use Rattle.finishing.specs.Finish.{rankOf, rankAt, orderOf, below, picked, sortedIn, finishOf}
 use Rattle.finishing.proofs.Sorting.{places-below}
 use Rattle.finishing.proofs.Picking.{sets-append, inside}
-use Rattle.builders.specs.declared.FieldCursor.{FieldCursor}
 use Rattle.builders.specs.declared.Placed.{Placed}
 use Rattle.builders.specs.declared.Placed.the-variants.{At, Refused}
 use Rattle.sound.specs.Sound.{Sound, Filled, Limited, fieldsIn, lengthsIn, short, tableOf, tiles, covers, plain, after, stateAfter}

@@ -1,5 +1,5 @@
 -- Whatever calls were made, under a valid catalogue: what stands in the table is admitted and covers every byte once. Assumes nothing.
-use mathlib.Core.Path.{_≡_, refl}
+use mathlib.Core.Path.{_≡_}
 use mathlib.Core.Bool.{Bool, true, false, cond}
 use mathlib.Core.List.{List, [], _∷_}
 use Prim.Native.Nat.{ℕ, zero, suc, _+_, _≤_, _<_}
@@ -15,7 +15,7 @@ use Rattle.layout.specs.Layout.{structAt, countOf}
 use Rattle.layout.specs.declared.block.Holder.{Holder}
 use Rattle.layout.specs.declared.block.Holder.the-variants.{Struct}
 use Rattle.builders.specs.Cursor.{Building}
-use Rattle.calls.specs.Calls.{sketch, scaleOf, takesScalar, takesString, takesLike, widest, structHead, timesFlag, nestedSize, baseEnd}
+use Rattle.calls.specs.Calls.{sketch, scaleOf, takesScalar, takesString, takesLike, widest, structHead, timesFlag, nestedSize}
 use Rattle.sound.specs.Sound.{Sound, Filled, Limited, tableOf, lengthsIn, short, after}
 use Rattle.sound.specs.Made.{Call, Scalar, Chars, Like, Nested, Goes, EndBase, answerOf, typeFits, madeFrom, made, finished}
 use Rattle.sound.proofs.Calls.{fresh-sound, place-sound, move-sound, finish-base-sound}

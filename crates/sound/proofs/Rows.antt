@@ -1,14 +1,14 @@
 -- Fields of a table, when bytes are stored elsewhere and when one is stored. Assumes nothing.
-use mathlib.Core.Path.{_≡_, refl, sym, ap, _∙_}
+use mathlib.Core.Path.{_≡_, refl}
 use mathlib.Core.List.{List, [], _∷_, _++_}
-use Prim.Native.Nat.{ℕ, zero, suc, _+_, _-_, _*_, _/_, _%_, _≤_, _<_}
-use native.Mathlib.Nat.{mul-suc, mul-zero, div-add-mod'}
+use Prim.Native.Nat.{ℕ, zero, suc, _+_, _*_, _/_, _%_, _≤_, _<_}
+use native.Mathlib.Nat.{mul-suc, mul-zero}
 use native.Mathlib.Omega.{arith}
-use lib.ListN.{length, getD, take}
+use lib.ListN.{length, take}
 use lib.Seq.{sets, getD-take, length-take-le}
 use Rattle.lent.specs.Bytes.{byteAt, numberAt}
 use Rattle.lent.specs.Scan.{gather}
-use Rattle.lent.proofs.Stored.{get-below, get-in}
+use Rattle.lent.proofs.Stored.{get-in}
 use Rattle.field.specs.Field.{fieldAt, fieldsOf}
 use Rattle.field.specs.declared.FieldDef.{FieldDef}
 use Rattle.builders.specs.Cursor.{rowOf}

@@ -1,18 +1,18 @@
 -- What a valid catalogue and the flags give: padding is no integer, an integer has a width, and a flag more leaves an array one. Assumes nothing.
-use mathlib.Core.Path.{_≡_, refl, sym, ap, _∙_}
+use mathlib.Core.Path.{_≡_, refl}
 use mathlib.Core.Bool.{Bool, true, false, cond, not, _&&_, _||_, false≢true}
-use mathlib.Core.List.{List, [], _∷_}
+use mathlib.Core.List.{List}
 use mathlib.Core.Logic.{_⊎_, inl, inr}
-use Prim.Native.Nat.{ℕ, zero, suc, _+_, _-_, _*_, _/_, _%_, _≤_, _<_, min, max}
+use Prim.Native.Nat.{ℕ, zero, suc, _+_, _*_, _/_, _%_, _≤_, _<_, min, max}
 use native.Mathlib.Omega.{arith}
-use borrow.Author.Tests.{eq-eqb, ne-eqb, eqb-true, eqb-false, lt-ltb, ltb-true, le-leb, lt-leb, leb-true, leb-false}
+use borrow.Author.Tests.{ne-eqb, eqb-true, eqb-false, leb-true}
 use lib.Bits.{bitAnd, bitOr, and-step, or-step, and-zero-l}
-use lib.Dec.{leb, ltb, eqb}
+use lib.Dec.{leb, eqb}
 use lib.ListN.{length}
 use Rattle.lent.specs.Bytes.{byteAt}
 use Rattle.lent.specs.Scan.{gather, every, tally}
 use Rattle.lent.proofs.Scan.{both, nth}
-use Rattle.catalogue.specs.Catalogue.{classOf, widthOf, kinds, within, firstOf, idOf, padding, kindOk, isWidth, catalogueOk, flagsOk, arrayFlag, extensionFlag, oneEach, othersOk, unsigned, signed, countClass, decimal, string, struct}
+use Rattle.catalogue.specs.Catalogue.{classOf, widthOf, kinds, within, firstOf, idOf, padding, kindOk, catalogueOk, flagsOk, arrayFlag, extensionFlag, oneEach, othersOk, unsigned, signed, countClass, decimal, string, struct}
 
 -- ---- flags
 

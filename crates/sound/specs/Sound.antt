@@ -1,5 +1,5 @@
 -- What holds of a building after every call: its fields lie one behind the other from 0 to the cursor, none is refused, and there are not too many.
-use Prim.Native.Nat.{ℕ, _+_, _*_, _≤_}
+use Prim.Native.Nat.{ℕ, _*_, _≤_}
 use mathlib.Core.Path.{_≡_}
 use mathlib.Core.Bool.{Bool, true, cond, _&&_}
 use mathlib.Core.List.{List, [], _∷_}
@@ -8,7 +8,7 @@ use lib.ListN.{take}
 use Rattle.limits.specs.Limits.{maxBytes, maxName}
 use Rattle.lent.specs.Bytes.{byteAt}
 use Rattle.lent.specs.Scan.{gather, every, tally}
-use Rattle.field.specs.Field.{fieldAt, fieldsOf, endOf}
+use Rattle.field.specs.Field.{fieldAt, endOf}
 use Rattle.field.specs.declared.FieldDef.{FieldDef}
 use Rattle.table.specs.Table.{reservedZero, widthOk, tableOk}
 use Rattle.table.specs.declared.Rule.{Rule}
