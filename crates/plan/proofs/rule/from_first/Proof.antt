@@ -41,8 +41,8 @@ returns c =
     let l = (c .before .before .before .before .before .before .loop) in
     c .op-for .ensures
     ∙ rw (c .before .field-in .ensures)
-        (first-here (fieldAt (a .src .now)) 16 (l .at) (l .left) (sameId (a .want)) (λ have. stepFor (a .cat .now) have (a .want) (a .marked)) Default _ (l .inv .1)
-        (omega arith) (eq-eqb _ _ (sym (c .before .before .before .before .u16-in .ensures) ∙ c .before .before .if1 .taken)))
+    (first-here (fieldAt (a .src .now)) 16 (l .at) (l .left) (sameId (a .want)) (λ have. stepFor (a .cat .now) have (a .want) (a .marked)) Default _ (l .inv .1)
+    (omega arith) (eq-eqb _ _ (sym (c .before .before .before .before .u16-in .ensures) ∙ c .before .before .if1 .taken)))
 
 add-at : tie.Need-add-at Inv-loop μ-loop
 add-at c = omega arith
