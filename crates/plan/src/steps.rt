@@ -12,17 +12,12 @@ use crate::rule;
 use crate::rule::Carried;
 use step::Op;
 use step::Step;
+use step::Steps;
 
 // Two neighbours become one step, or stay two.
 enum Joining {
     One(Step),
     Two,
-}
-
-// An array of Steps with a count; what stands past the count is no step.
-pub struct Steps {
-    pub count: usize,
-    pub steps: [Step; limits::MAX_STEPS],
 }
 
 // Where the source's base ends, and the target's.

@@ -26,6 +26,12 @@ pub struct Step {
     pub op: Op,
 }
 
+// An array of Steps with a count; what stands past the count is no step.
+pub struct Steps {
+    pub count: usize,
+    pub steps: [Step; limits::MAX_STEPS],
+}
+
 // Where it writes, and where it ends there.
 pub fn target_of(step: Step) -> usize
     ensures { λ r. ⌜ (r ≡ targetOf step) × (r < 65536) ⌝ }
