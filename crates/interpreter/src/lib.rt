@@ -1,15 +1,13 @@
 // UpgradePlan::apply of dbn's upgrade.rs, on a plan in a slot: the default body, then the steps.
 ghost use mathlib.Core.Path.{_≡_};
 ghost use mathlib.Core.Bool.{true};
-ghost use Prim.Native.Nat.{_+_, _*_, _≤_};
+ghost use Prim.Native.Nat.{_+_, _≤_};
 ghost use lib.ListN.{length};
 ghost use lib.Seq.{sets};
-ghost use Rattle.lent.specs.Scan.{every};
 ghost use Rattle.catalogue.specs.Catalogue.{isWidth};
-ghost use Rattle.step.specs.Packed.{stepsAt};
 ghost use Rattle.step.specs.declared.Op.the-variants.{Int};
-ghost use Rattle.slot.specs.Slot.{stepsFrom, countIn};
-ghost use Rattle.interpreter.specs.Run.{carried, fits, runStep, run};
+ghost use Rattle.slot.specs.Slot.{sizeIn, planIn, slotOk};
+ghost use Rattle.interpreter.specs.Run.{carried, fits, runStep, run, upgraded};
 use step::Op;
 use step::Step;
 
@@ -69,10 +67,20 @@ fn run_step(step: Step, src: &[u8], dst: &mut [u8])
     }
 }
 
+// The default body of a slot, behind the header.
+pub fn lay_body(slot: &[u8], dst: &mut [u8])
+    requires { ⌜ (slotOk (now slot) ≡ true) × (sizeIn (now slot) ≤ length (now dst)) ⌝ }
+    ensures { λ r. ⌜ now (dst .exit) ≡ sets (now (dst .entry)) (planIn (now (slot .entry)) .header) (planIn (now (slot .entry)) .body) ⌝ }
+{
+    let header = slot::header_in(slot);
+    let n = slot::size_in(slot) - header;
+    lent::store::copy(slot, slot::BODY_FROM, dst, header, n);
+}
+
 // The steps of a slot, one after the other.
 pub fn run_steps(slot: &[u8], src: &[u8], dst: &mut [u8])
-    requires { ⌜ (stepsFrom + 16 * countIn (now slot) ≤ length (now slot)) × (every (fits (length (now dst))) (stepsAt (now slot) stepsFrom (countIn (now slot))) ≡ true) ⌝ }
-    ensures { λ r. ⌜ now (dst .exit) ≡ run (now (src .entry)) (stepsAt (now (slot .entry)) stepsFrom (countIn (now (slot .entry)))) (now (dst .entry)) ⌝ }
+    requires { ⌜ (slotOk (now slot) ≡ true) × (sizeIn (now slot) ≤ length (now dst)) ⌝ }
+    ensures { λ r. ⌜ now (dst .exit) ≡ run (now (src .entry)) (planIn (now (slot .entry)) .steps) (now (dst .entry)) ⌝ }
 {
     let mut at = slot::STEPS_FROM;
     let mut left = slot::count_in(slot);
@@ -82,4 +90,13 @@ pub fn run_steps(slot: &[u8], src: &[u8], dst: &mut [u8])
         at += step::packed::SIZE;
         left -= 1;
     }
+}
+
+// The default body, then the steps. Bytes of the header, and those past the record size, stay.
+pub fn apply(slot: &[u8], src: &[u8], dst: &mut [u8])
+    requires { ⌜ (slotOk (now slot) ≡ true) × (sizeIn (now slot) ≤ length (now dst)) ⌝ }
+    ensures { λ r. ⌜ now (dst .exit) ≡ upgraded (planIn (now (slot .entry))) (now (src .entry)) (now (dst .entry)) ⌝ }
+{
+    lay_body(slot, dst);
+    run_steps(slot, src, dst)
 }

@@ -6,7 +6,8 @@ use lib.ListN.{length}
 use mathlib.Core.Bool.{true}
 use mathlib.Core.Path.{_∙_, _≡_, refl}
 use native.Mathlib.Omega.{arith}
-use Rattle.interpreter.proofs.Runs.{next-fits, run-end, run-turn}
+use Rattle.interpreter.proofs.Kept.{kept}
+use Rattle.interpreter.proofs.Runs.{all-fit, next-fits, run-end, run-turn}
 use Rattle.interpreter.specs.Run.{fits, run}
 use Rattle.lent.specs.Scan.{every}
 use Rattle.slot.specs.Slot.{countIn, stepsFrom}
@@ -26,7 +27,9 @@ count-in-requires : tie.Need-count-in-requires Inv-loop μ-loop
 count-in-requires c κs = search needs
 
 loop-holds : tie.Need-loop-holds Inv-loop μ-loop
-loop-holds c = rw (c .count-in .ensures) (c .before .before .before .before .pre .0, refl, c .before .before .before .before .pre .1, refl)
+loop-holds c =
+    let k = kept (c .before .before .before .before .args .slot .now) (c .before .before .before .before .pre .0) in
+    rw (c .count-in .ensures) (omega (arith, k .whole, k .count), refl, all-fit _ _ _ _ (c .before .before .before .before .pre .1) (k .steps), refl)
 
 step-in-requires : tie.Need-step-in-requires Inv-loop μ-loop
 step-in-requires c κs = omega arith
