@@ -8,6 +8,7 @@ ghost use Rattle.catalogue.specs.Catalogue.{isWidth};
 ghost use Rattle.step.specs.declared.Op.the-variants.{Int};
 ghost use Rattle.slot.specs.Slot.{sizeIn, planIn, slotOk};
 ghost use Rattle.interpreter.specs.Run.{carried, fits, runStep, run, upgraded};
+use slot::check::number_at;
 use step::Op;
 use step::Step;
 
@@ -72,8 +73,8 @@ pub fn lay_body(slot: &[u8], dst: &mut [u8])
     requires { ⌜ (slotOk (now slot) ≡ true) × (sizeIn (now slot) ≤ length (now dst)) ⌝ }
     ensures { λ r. ⌜ now (dst .exit) ≡ sets (now (dst .entry)) (planIn (now (slot .entry)) .header) (planIn (now (slot .entry)) .body) ⌝ }
 {
-    let header = slot::header_in(slot);
-    let n = slot::size_in(slot) - header;
+    let header = number_at(slot, 6);
+    let n = number_at(slot, 10) - header;
     lent::store::copy(slot, slot::BODY_FROM, dst, header, n);
 }
 
@@ -83,7 +84,7 @@ pub fn run_steps(slot: &[u8], src: &[u8], dst: &mut [u8])
     ensures { λ r. ⌜ now (dst .exit) ≡ run (now (src .entry)) (planIn (now (slot .entry)) .steps) (now (dst .entry)) ⌝ }
 {
     let mut at = slot::STEPS_FROM;
-    let mut left = slot::count_in(slot);
+    let mut left = number_at(slot, 12);
     while 0 < left {
         let step = step::packed::step_in(slot, at);
         run_step(step, src, dst);

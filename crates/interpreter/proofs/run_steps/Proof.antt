@@ -23,13 +23,13 @@ Inv-loop slot src dst₀ at₀ left₀ dst at left =
 abbrev μ-loop : tie.MeasureT-loop
 μ-loop slot src dst₀ at₀ left₀ dst at left = left
 
-count-in-requires : tie.Need-count-in-requires Inv-loop μ-loop
-count-in-requires c κs = search needs
+number-at-requires : tie.Need-number-at-requires Inv-loop μ-loop
+number-at-requires c κs = search needs
 
 loop-holds : tie.Need-loop-holds Inv-loop μ-loop
 loop-holds c =
     let k = kept (c .before .before .before .before .args .slot .now) (c .before .before .before .before .pre .0) in
-    rw (c .count-in .ensures) (omega (arith, k .whole, k .count), refl, all-fit _ _ _ _ (c .before .before .before .before .pre .1) (k .steps), refl)
+    rw (c .number-at .ensures .0) (omega (arith, k .whole, k .count), refl, all-fit _ _ _ _ (c .before .before .before .before .pre .1) (k .steps), refl)
 
 step-in-requires : tie.Need-step-in-requires Inv-loop μ-loop
 step-in-requires c κs = omega arith
@@ -69,7 +69,7 @@ run-steps-spec =
     (tie.spec
     Inv-loop
     μ-loop
-    count-in-requires
+    number-at-requires
     loop-holds
     step-in-requires
     run-step-requires
