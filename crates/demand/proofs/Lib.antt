@@ -1,0 +1,5 @@
+pub mod Types
+pub mod Right
+pub mod Ascending
+pub mod Tables
+pub mod Upgraded
