@@ -3,3 +3,5 @@ pub mod Right
 pub mod Ascending
 pub mod Tables
 pub mod Upgraded
+pub mod Integers
+pub mod Fields

@@ -1,0 +1,103 @@
+-- Demand 3, field by field: at each target field that counts stands its carried value, or its default. Assumes nothing.
+use Prim.Native.Nat.{ℕ, zero, suc, _+_, _-_, _*_, _≤_, _<_, max}
+use native.Mathlib.Omega.{arith}
+use mathlib.Core.Path.{_≡_, refl, sym, ap, _∙_, subst}
+use mathlib.Core.Bool.{Bool, true, false, cond, not, _&&_, _||_}
+use mathlib.Core.List.{List, [], _∷_, _++_, List·Memᴰ, List·Memᴰ·head, List·Memᴰ·tail}
+use borrow.Author.Tests.{leb-true, le-leb}
+use lib.Dec.{leb, ltb}
+use lib.ListN.{length, take, drop, length-drop, length-append, List·getD-append}
+use lib.Seq.{length-take-le, getD-take, getD-drop, getD-append-add}
+use Rattle.lent.specs.Bytes.{byteAt, numberAt, bytesOf, window}
+use Rattle.lent.specs.Scan.{every, first}
+use Rattle.lent.proofs.Scan.{both}
+use Rattle.catalogue.specs.Catalogue.{isWidth}
+use Rattle.field.specs.Field.{fieldsOf, endOf}
+use Rattle.field.specs.declared.FieldDef.{FieldDef}
+use Rattle.layout.specs.Size.{lastEnd}
+use Rattle.step.specs.Step.{int, copy, gives, stepOk, widthsOk}
+use Rattle.step.specs.declared.Step.{Step}
+use Rattle.slot.specs.Plan.{Plan}
+use Rattle.plan.specs.Rule.{Want, counts, wants, stepOf}
+use Rattle.plan.specs.declared.rule.Carried.{Carried}
+use Rattle.plan.specs.declared.rule.Carried.the-variants.{By, Default}
+use Rattle.mapping.specs.Mapping.{integerOf, mapped, mapInt}
+use Rattle.interpreter.specs.Run.{carried, reaches, upgraded}
+use Rattle.rule.specs.Bytewise.{bytewise}
+use Rattle.rule.specs.Body.{defs, ruleByte, ruleBody, valueOf}
+use Rattle.rule.proofs.Stores.{length-bytewise, byte-bytewise}
+use Rattle.rule.proofs.Planned.{If, Within, stepOf-within}
+use Rattle.rule.proofs.Values.{every-at, value-at, number-window}
+use Rattle.demand.specs.Demand.{Admitted, Planned, Recuts, afterHeader}
+use Rattle.demand.proofs.Right.{admitted, stepOf-ok}
+use Rattle.demand.proofs.Ascending.{placed}
+use Rattle.demand.proofs.Tables.{fields-are, all-admitted, all-placed}
+use Rattle.demand.proofs.Integers.{mapped-number, mapped-integer}
+use Rattle.demand.proofs.Upgraded.{targets-apart, upgraded-by-rule}
+
+-- a byte of a body between a header and a tail
+between : (a b z : List ℕ) (h i : ℕ) → length a ≡ h → h ≤ i → i < h + length b → byteAt (a ++ (b ++ z)) i ≡ byteAt b (i - h)
+between a b z h i e l u =
+    ap (λ (k : ℕ). byteAt (a ++ (b ++ z)) k) (omega arith) ∙ getD-append-add a (b ++ z) (i - h) 0 ∙ List·getD-append b z 0 (i - h) (omega arith)
+
+module _ {cat srcTable dstTable marks : List ℕ} {p : Plan} (made : Planned cat srcTable dstTable marks p) {q : Plan} (recut : Recuts p q)
+    (src dst : List ℕ) (long : p .srcBase ≤ length src) (room : p .size ≤ length dst)
+    (w : Want) (one : List·Memᴰ w (wants cat marks dstTable)) (here : counts cat (w .def) ≡ true) where
+  record Place : Type 0 where
+    low : p .header ≤ w .def .offset
+    high : endOf (w .def) ≤ p .size
+
+  place : Place
+  place =
+      let all = ap (every _) (fields-are cat marks dstTable) ∙ all-placed cat (p .header) (p .size) (fieldsOf dstTable) (made .after) (omega (arith, made .size)) in
+      let x = both (not (counts cat (w .def)) || leb (p .header) (w .def .offset)) (leb (endOf (w .def)) (p .size)) (every-at (placed cat (p .header) (p .size)) one all) in
+      record { low = leb-true _ _ (rw here at (x .0)); high = leb-true _ _ (x .1) }
+
+  default : List ℕ
+  default = window (p .body) (w .def .offset - p .header) (w .def .size)
+
+  default-length : length default ≡ w .def .size
+  unfolding default
+  default-length =
+      length-take-le (w .def .size) (drop (w .def .offset - p .header) (p .body))
+      (omega (arith, length-drop (w .def .offset - p .header) (p .body), made .body, place .low, place .high))
+
+  body : List ℕ
+  body = ruleBody cat (fieldsOf srcTable) (wants cat marks dstTable) src (p .header) (p .body)
+
+  whole : List ℕ
+  whole = take (p .header) dst ++ (body ++ drop (p .size) dst)
+
+  body-length : length body ≡ length (p .body)
+  unfolding body
+  body-length = length-bytewise _ (p .header) (p .body)
+
+  front : length (take (p .header) dst) ≡ p .header
+  front = length-take-le (p .header) dst (omega (arith, made .body))
+
+  whole-length : p .size ≤ length whole
+  unfolding whole
+  whole-length =
+      omega (arith, length-append (take (p .header) dst) (body ++ drop (p .size) dst), length-append body (drop (p .size) dst), front, body-length, made .body)
+
+  each : (j : ℕ) → j < w .def .size
+      → byteAt whole (w .def .offset + j) ≡ ruleByte cat (fieldsOf srcTable) (wants cat marks dstTable) src (w .def .offset + j) (byteAt default j)
+  unfolding whole body default
+  each j h =
+      let k : ℕ = w .def .offset + j - p .header in
+      let f = w .def in
+      let l : k < length (p .body) = omega (arith, made .body, place .low, place .high) in
+      let b : byteAt default j ≡ byteAt (p .body) k =
+      getD-take (f .size) (drop (f .offset - p .header) (p .body)) j 0 h ∙ getD-drop (f .offset - p .header) (p .body) j 0 ∙ ap (byteAt (p .body)) (omega (arith, place .low)) in
+      between (take (p .header) dst) body (drop (p .size) dst) (p .header) (f .offset + j) front (omega (arith, place .low)) (omega (arith, body-length))
+      ∙ byte-bytewise (ruleByte cat (fieldsOf srcTable) (wants cat marks dstTable) src) (p .header) (p .body) k l
+      ∙ ap (λ (i : ℕ). ruleByte cat (fieldsOf srcTable) (wants cat marks dstTable) src i (byteAt (p .body) k)) (omega (arith, place .low))
+      ∙ ap (ruleByte cat (fieldsOf srcTable) (wants cat marks dstTable) src (f .offset + j)) (sym b)
+
+  -- its bytes in the upgraded record
+  pub field-by-rule : window (upgraded q src dst) (w .def .offset) (w .def .size)
+      ≡ valueOf src (stepOf cat (fieldsOf srcTable) w) (window (p .body) (w .def .offset - p .header) (w .def .size))
+  unfolding whole body default
+  field-by-rule =
+      ap (λ (all : List ℕ). window all (w .def .offset) (w .def .size)) (upgraded-by-rule made recut src dst long room)
+      ∙ value-at cat (fieldsOf srcTable) (wants cat marks dstTable) w src whole default (targets-apart made) one (omega (arith, whole-length, place .high)) default-length each
