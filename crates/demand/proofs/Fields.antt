@@ -5,9 +5,10 @@ use mathlib.Core.Path.{_≡_, refl, sym, ap, _∙_, subst}
 use mathlib.Core.Bool.{Bool, true, false, cond, not, _&&_, _||_}
 use mathlib.Core.List.{List, [], _∷_, _++_, List·Memᴰ, List·Memᴰ·head, List·Memᴰ·tail}
 use borrow.Author.Tests.{leb-true, le-leb}
-use lib.Dec.{leb, ltb}
+use lib.Dec.{leb, ltb, eqb}
 use lib.ListN.{length, take, drop, length-drop, length-append, List·getD-append}
 use lib.Seq.{length-take-le, getD-take, getD-drop, getD-append-add}
+use Rattle.limits.specs.Limits.{maxBytes}
 use Rattle.lent.specs.Bytes.{byteAt, numberAt, bytesOf, window}
 use Rattle.lent.specs.Scan.{every, first}
 use Rattle.lent.proofs.Scan.{both}
@@ -15,7 +16,7 @@ use Rattle.catalogue.specs.Catalogue.{isWidth}
 use Rattle.field.specs.Field.{fieldsOf, endOf}
 use Rattle.field.specs.declared.FieldDef.{FieldDef}
 use Rattle.layout.specs.Size.{lastEnd}
-use Rattle.step.specs.Step.{int, copy, gives, stepOk, widthsOk}
+use Rattle.step.specs.Step.{copy, int, sourceOf, takes, gives, stepOk, widthsOk}
 use Rattle.step.specs.declared.Step.{Step}
 use Rattle.slot.specs.Plan.{Plan}
 use Rattle.plan.specs.Rule.{Want, counts, wants, stepOf}
@@ -25,9 +26,9 @@ use Rattle.mapping.specs.Mapping.{integerOf, mapped, mapInt}
 use Rattle.interpreter.specs.Run.{carried, reaches, upgraded}
 use Rattle.rule.specs.Bytewise.{bytewise}
 use Rattle.rule.specs.Body.{defs, ruleByte, ruleBody, valueOf}
-use Rattle.rule.proofs.Stores.{length-bytewise, byte-bytewise}
+use Rattle.rule.proofs.Stores.{length-bytewise, byte-bytewise, length-carried}
 use Rattle.rule.proofs.Planned.{If, Within, stepOf-within}
-use Rattle.rule.proofs.Values.{every-at, value-at, number-window}
+use Rattle.rule.proofs.Values.{every-at, value-at, number-window, number-front}
 use Rattle.demand.specs.Demand.{Admitted, Planned, Recuts, afterHeader}
 use Rattle.demand.proofs.Right.{admitted, stepOf-ok}
 use Rattle.demand.proofs.Ascending.{placed}
@@ -101,3 +102,41 @@ module _ {cat srcTable dstTable marks : List ℕ} {p : Plan} (made : Planned cat
   field-by-rule =
       ap (λ (all : List ℕ). window all (w .def .offset) (w .def .size)) (upgraded-by-rule made recut src dst long room)
       ∙ value-at cat (fieldsOf srcTable) (wants cat marks dstTable) w src whole default (targets-apart made) one (omega (arith, whole-length, place .high)) default-length each
+
+  -- a field's own step that the record reaches: what it carries stands at the front of the field
+  module _ (s : Step) (by : stepOf cat (fieldsOf srcTable) w ≡ By s) (reached : sourceOf s + takes s ≤ length src) where
+    value-there : window (upgraded q src dst) (w .def .offset) (w .def .size) ≡ carried src (s .op) ++ drop (gives s) default
+    unfolding default
+    value-there = field-by-rule ∙ rw (by, le-leb (sourceOf s + takes s) (length src) reached)
+
+    fits : gives s ≤ w .def .size
+    fits = let x : Within (w .def) s = rw by at (stepOf-within cat (fieldsOf srcTable) w) in x .fits
+
+    number-there : numberAt (upgraded q src dst) (w .def .offset) (gives s) ≡ numberAt (carried src (s .op)) 0 (gives s)
+    number-there =
+        sym (number-window (upgraded q src dst) (w .def .offset) (w .def .size) (gives s) fits)
+        ∙ ap (λ (all : List ℕ). numberAt all 0 (gives s)) value-there
+        ∙ number-front (carried src (s .op)) (drop (gives s) default) 0 (gives s) (omega (arith, length-carried src s reached))
+
+  -- a copy: the field holds the number that the source field holds
+  pub copied-number : (source target n : ℕ) → stepOf cat (fieldsOf srcTable) w ≡ By (copy source target n) → source + n ≤ length src
+      → numberAt (upgraded q src dst) (w .def .offset) n ≡ numberAt src source n
+  copied-number source target n by reached = number-there (copy source target n) by reached ∙ number-window src source n n (omega arith)
+
+  -- an integer step: it holds the integer that the mapping gives of the one that the source field holds
+  module _ (source target from to : ℕ) (signed marked : Bool) (by : stepOf cat (fieldsOf srcTable) w ≡ By (int source target from to signed marked)) (reached : source + from ≤ length src) where
+    width : isWidth to ≡ true
+    width =
+        let all = ap (every _) (fields-are cat marks dstTable) ∙ all-admitted cat dstTable (made .target) in
+        let ok : stepOk (int source target from to signed marked) ≡ true =
+        rw by at (stepOf-ok cat (made .catalogue) (fieldsOf srcTable) w (all-admitted cat srcTable (made .source)) (every-at (admitted cat) one all)) in
+        let a = both (widthsOk from to marked) (leb (source + from) maxBytes) ok .0 in
+        let b = both (isWidth from) (isWidth to && (not (eqb from to) && (marked || ltb from to))) a .1 in
+        both (isWidth to) (not (eqb from to) && (marked || ltb from to)) b .0
+
+    pub mapped-number-there : numberAt (upgraded q src dst) (w .def .offset) to ≡ mapInt from to signed marked (numberAt src source from)
+    mapped-number-there =
+        number-there (int source target from to signed marked) by reached ∙ mapped-number from to signed marked width (numberAt src source from)
+
+    pub integer-by-rule : integerOf signed to (numberAt (upgraded q src dst) (w .def .offset) to) ≡ mapped from to signed marked (integerOf signed from (numberAt src source from))
+    integer-by-rule = ap (integerOf signed to) mapped-number-there ∙ mapped-integer from to signed marked width (numberAt src source from)

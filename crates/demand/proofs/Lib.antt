@@ -5,3 +5,4 @@ pub mod Tables
 pub mod Upgraded
 pub mod Integers
 pub mod Fields
+pub mod Sequence

@@ -1,7 +1,7 @@
 -- The words of demand 3: a plan that the planner makes of two tables, and a plan that differs from it only in cuts.
 use Prim.Native.Nat.{ℕ, _+_, _*_, _≤_, _<_, max}
 use mathlib.Core.Path.{_≡_}
-use mathlib.Core.Bool.{Bool, true, not, _||_}
+use mathlib.Core.Bool.{Bool, true, false, not, _||_}
 use mathlib.Core.List.{List}
 use mathlib.Core.Option.{Option, none, some}
 use lib.Dec.{leb}
@@ -9,8 +9,8 @@ use lib.ListN.{length}
 use Rattle.limits.specs.Limits.{maxBytes, maxHeader, maxFields}
 use Rattle.lent.specs.Bytes.{byteAt}
 use Rattle.lent.specs.Scan.{every, first}
-use Rattle.catalogue.specs.Catalogue.{catalogueOk}
-use Rattle.field.specs.Field.{fieldsOf}
+use Rattle.catalogue.specs.Catalogue.{unsigned, classOf, catalogueOk}
+use Rattle.field.specs.Field.{fieldsOf, isArray}
 use Rattle.field.specs.declared.FieldDef.{FieldDef}
 use Rattle.table.specs.Table.{tableOk}
 use Rattle.table.specs.declared.Rule.{Rule}
@@ -69,6 +69,14 @@ pub record Recuts (p q : Plan) : Type 0 where
   pub same : q ≡ withSteps p (q .steps)
   pub steps : Recut (p .srcBase) (p .steps) (q .steps)
 
--- the source field that a target field is carried from
+-- ---- sequence numbers
+
+-- an unsigned field of eight bytes that is no array
+pub record Sequence (cat : List ℕ) (f : FieldDef) : Type 0 where
+  pub class : classOf cat (f .«type_id») ≡ unsigned
+  pub wide : f .size ≡ 8
+  pub single : isArray cat f ≡ false
+
+-- the source field that a target field is carried from: the first with its id
 abbrev pub firstFor : List FieldDef → FieldDef → Option FieldDef
 firstFor haves want = first (sameId want) some none haves

@@ -105,7 +105,7 @@ value-at cat haves ws w src all default e m inside l each =
         ∙ each j h ∙ rule-in cat haves src (w .def .offset + j) (byteAt default j) e m (record { from = omega arith; to = omega arith })
         ∙ sym (value-byte src (w .def) (stepOf cat haves w) default j (stepOf-within cat haves w) l h)
 
--- ---- the number of a window is that of its bytes
+-- ---- the number of a window is that of its bytes, and the number at the front of a list that of the front
 
 window-number : (s : List ℕ) (at m j n : ℕ) → j + n ≤ m → numberAt (window s at m) j n ≡ numberAt s (at + j) n
 window-number s at m j zero h = refl
@@ -114,5 +114,9 @@ window-number s at m j (suc n) h =
     let e : at + j + 1 ≡ at + (j + 1) = omega arith in
     rw (b, e, window-number s at m (j + 1) n (omega arith))
 
-pub number-window : (s : List ℕ) (at n : ℕ) → numberAt (window s at n) 0 n ≡ numberAt s at n
-number-window s at n = let e : at + 0 ≡ at = omega arith in window-number s at n 0 n (omega arith) ∙ ap (λ (k : ℕ). numberAt s k n) e
+pub number-window : (s : List ℕ) (at m n : ℕ) → n ≤ m → numberAt (window s at m) 0 n ≡ numberAt s at n
+number-window s at m n h = let e : at + 0 ≡ at = omega arith in window-number s at m 0 n (omega arith) ∙ ap (λ (k : ℕ). numberAt s k n) e
+
+pub number-front : (s t : List ℕ) (j n : ℕ) → j + n ≤ length s → numberAt (s ++ t) j n ≡ numberAt s j n
+number-front s t j zero h = refl
+number-front s t j (suc n) h = rw (List·getD-append s t 0 j (omega arith), number-front s t (j + 1) n (omega arith))
