@@ -15,6 +15,7 @@ use Rattle.lent.proofs.Scan.{both}
 use Rattle.catalogue.specs.Catalogue.{isWidth}
 use Rattle.field.specs.Field.{fieldsOf, endOf}
 use Rattle.field.specs.declared.FieldDef.{FieldDef}
+use Rattle.table.proofs.Bytes.{Covers}
 use Rattle.layout.specs.Size.{lastEnd}
 use Rattle.step.specs.Step.{copy, int, sourceOf, takes, gives, stepOk, widthsOk}
 use Rattle.step.specs.declared.Step.{Step}
@@ -28,7 +29,7 @@ use Rattle.rule.specs.Bytewise.{bytewise}
 use Rattle.rule.specs.Body.{defs, ruleByte, ruleBody, valueOf}
 use Rattle.rule.proofs.Stores.{length-bytewise, byte-bytewise, length-carried}
 use Rattle.rule.proofs.Planned.{If, Within, stepOf-within}
-use Rattle.rule.proofs.Values.{every-at, value-at, number-window, number-front}
+use Rattle.rule.proofs.Values.{every-at, rule-out, value-at, number-window, number-front}
 use Rattle.demand.specs.Demand.{Admitted, Planned, Recuts, afterHeader}
 use Rattle.demand.proofs.Right.{admitted, stepOf-ok}
 use Rattle.demand.proofs.Ascending.{placed}
@@ -36,107 +37,124 @@ use Rattle.demand.proofs.Tables.{fields-are, all-admitted, all-placed}
 use Rattle.demand.proofs.Integers.{mapped-number, mapped-integer}
 use Rattle.demand.proofs.Upgraded.{targets-apart, upgraded-by-rule}
 
--- a byte of a body between a header and a tail
-between : (a b z : List ℕ) (h i : ℕ) → length a ≡ h → h ≤ i → i < h + length b → byteAt (a ++ (b ++ z)) i ≡ byteAt b (i - h)
-between a b z h i e l u =
-    ap (λ (k : ℕ). byteAt (a ++ (b ++ z)) k) (omega arith) ∙ getD-append-add a (b ++ z) (i - h) 0 ∙ List·getD-append b z 0 (i - h) (omega arith)
+-- a body between a header and a tail, in a record with room
+module _ (header size : ℕ) (dst body : List ℕ) (fits : header + length body ≡ size) (room : size ≤ length dst) where
+  front : length (take header dst) ≡ header
+  front = length-take-le header dst (omega arith)
+
+  between : (i : ℕ) → header ≤ i → i < size → byteAt (take header dst ++ (body ++ drop size dst)) i ≡ byteAt body (i - header)
+  between i low high =
+      ap (λ (k : ℕ). byteAt (take header dst ++ (body ++ drop size dst)) k) (omega (arith, front))
+      ∙ getD-append-add (take header dst) (body ++ drop size dst) (i - header) 0
+      ∙ List·getD-append body (drop size dst) 0 (i - header) (omega arith)
+
+  at-least : size ≤ length (take header dst ++ (body ++ drop size dst))
+  at-least = omega (arith, length-append (take header dst) (body ++ drop size dst), length-append body (drop size dst), front)
 
 module _ {cat srcTable dstTable marks : List ℕ} {p : Plan} (made : Planned cat srcTable dstTable marks p) {q : Plan} (recut : Recuts p q)
-    (src dst : List ℕ) (long : p .srcBase ≤ length src) (room : p .size ≤ length dst)
-    (w : Want) (one : List·Memᴰ w (wants cat marks dstTable)) (here : counts cat (w .def) ≡ true) where
-  record Place : Type 0 where
-    low : p .header ≤ w .def .offset
-    high : endOf (w .def) ≤ p .size
-
-  place : Place
-  place =
-      let all = ap (every _) (fields-are cat marks dstTable) ∙ all-placed cat (p .header) (p .size) (fieldsOf dstTable) (made .after) (omega (arith, made .size)) in
-      let x = both (not (counts cat (w .def)) || leb (p .header) (w .def .offset)) (leb (endOf (w .def)) (p .size)) (every-at (placed cat (p .header) (p .size)) one all) in
-      record { low = leb-true _ _ (rw here at (x .0)); high = leb-true _ _ (x .1) }
-
-  default : List ℕ
-  default = window (p .body) (w .def .offset - p .header) (w .def .size)
-
-  default-length : length default ≡ w .def .size
-  unfolding default
-  default-length =
-      length-take-le (w .def .size) (drop (w .def .offset - p .header) (p .body))
-      (omega (arith, length-drop (w .def .offset - p .header) (p .body), made .body, place .low, place .high))
-
+    (src dst : List ℕ) (long : p .srcBase ≤ length src) (room : p .size ≤ length dst) where
   body : List ℕ
   body = ruleBody cat (fieldsOf srcTable) (wants cat marks dstTable) src (p .header) (p .body)
 
-  whole : List ℕ
-  whole = take (p .header) dst ++ (body ++ drop (p .size) dst)
-
-  body-length : length body ≡ length (p .body)
+  body-fits : p .header + length body ≡ p .size
   unfolding body
-  body-length = length-bytewise _ (p .header) (p .body)
+  body-fits = omega (arith, length-bytewise (ruleByte cat (fieldsOf srcTable) (wants cat marks dstTable) src) (p .header) (p .body), made .body)
 
-  front : length (take (p .header) dst) ≡ p .header
-  front = length-take-le (p .header) dst (omega (arith, made .body))
+  long-enough : p .size ≤ length (upgraded q src dst)
+  unfolding body
+  long-enough = rw (upgraded-by-rule made recut src dst long room) (at-least (p .header) (p .size) dst body body-fits room)
 
-  whole-length : p .size ≤ length whole
-  unfolding whole
-  whole-length =
-      omega (arith, length-append (take (p .header) dst) (body ++ drop (p .size) dst), length-append body (drop (p .size) dst), front, body-length, made .body)
+  -- a byte behind the header: the rule's
+  byte-by-rule : (i : ℕ) → p .header ≤ i → i < p .size
+      → byteAt (upgraded q src dst) i ≡ ruleByte cat (fieldsOf srcTable) (wants cat marks dstTable) src i (byteAt (p .body) (i - p .header))
+  unfolding body
+  byte-by-rule i low high =
+      let rule = ruleByte cat (fieldsOf srcTable) (wants cat marks dstTable) src in
+      ap (λ (all : List ℕ). byteAt all i) (upgraded-by-rule made recut src dst long room)
+      ∙ between (p .header) (p .size) dst body body-fits room i low high
+      ∙ byte-bytewise rule (p .header) (p .body) (i - p .header) (omega (arith, made .body))
+      ∙ ap (λ (k : ℕ). rule k (byteAt (p .body) (i - p .header))) (omega arith)
 
-  each : (j : ℕ) → j < w .def .size
-      → byteAt whole (w .def .offset + j) ≡ ruleByte cat (fieldsOf srcTable) (wants cat marks dstTable) src (w .def .offset + j) (byteAt default j)
-  unfolding whole body default
-  each j h =
-      let k : ℕ = w .def .offset + j - p .header in
-      let f = w .def in
-      let l : k < length (p .body) = omega (arith, made .body, place .low, place .high) in
-      let b : byteAt default j ≡ byteAt (p .body) k =
-      getD-take (f .size) (drop (f .offset - p .header) (p .body)) j 0 h ∙ getD-drop (f .offset - p .header) (p .body) j 0 ∙ ap (byteAt (p .body)) (omega (arith, place .low)) in
-      between (take (p .header) dst) body (drop (p .size) dst) (p .header) (f .offset + j) front (omega (arith, place .low)) (omega (arith, body-length))
-      ∙ byte-bytewise (ruleByte cat (fieldsOf srcTable) (wants cat marks dstTable) src) (p .header) (p .body) k l
-      ∙ ap (λ (i : ℕ). ruleByte cat (fieldsOf srcTable) (wants cat marks dstTable) src i (byteAt (p .body) k)) (omega (arith, place .low))
-      ∙ ap (ruleByte cat (fieldsOf srcTable) (wants cat marks dstTable) src (f .offset + j)) (sym b)
+  -- one of no field that counts: the default's
+  pub rest-by-default : (i : ℕ) → p .header ≤ i → i < p .size
+      → ((w : Want) → List·Memᴰ w (wants cat marks dstTable) → counts cat (w .def) ≡ true → Covers (w .def) i → ⊥)
+      → byteAt (upgraded q src dst) i ≡ byteAt (p .body) (i - p .header)
+  rest-by-default i low high none-there =
+      byte-by-rule i low high ∙ rule-out cat (fieldsOf srcTable) (wants cat marks dstTable) src i (byteAt (p .body) (i - p .header)) none-there
 
-  -- its bytes in the upgraded record
-  pub field-by-rule : window (upgraded q src dst) (w .def .offset) (w .def .size)
-      ≡ valueOf src (stepOf cat (fieldsOf srcTable) w) (window (p .body) (w .def .offset - p .header) (w .def .size))
-  unfolding whole body default
-  field-by-rule =
-      ap (λ (all : List ℕ). window all (w .def .offset) (w .def .size)) (upgraded-by-rule made recut src dst long room)
-      ∙ value-at cat (fieldsOf srcTable) (wants cat marks dstTable) w src whole default (targets-apart made) one (omega (arith, whole-length, place .high)) default-length each
+  -- ---- a target field that counts
 
-  -- a field's own step that the record reaches: what it carries stands at the front of the field
-  module _ (s : Step) (by : stepOf cat (fieldsOf srcTable) w ≡ By s) (reached : sourceOf s + takes s ≤ length src) where
-    value-there : window (upgraded q src dst) (w .def .offset) (w .def .size) ≡ carried src (s .op) ++ drop (gives s) default
+  module _ (w : Want) (one : List·Memᴰ w (wants cat marks dstTable)) (here : counts cat (w .def) ≡ true) where
+    record Place : Type 0 where
+      low : p .header ≤ w .def .offset
+      high : endOf (w .def) ≤ p .size
+
+    place : Place
+    place =
+        let all = ap (every _) (fields-are cat marks dstTable) ∙ all-placed cat (p .header) (p .size) (fieldsOf dstTable) (made .after) (omega (arith, made .size)) in
+        let x = both (not (counts cat (w .def)) || leb (p .header) (w .def .offset)) (leb (endOf (w .def)) (p .size)) (every-at (placed cat (p .header) (p .size)) one all) in
+        record { low = leb-true _ _ (rw here at (x .0)); high = leb-true _ _ (x .1) }
+
+    default : List ℕ
+    default = window (p .body) (w .def .offset - p .header) (w .def .size)
+
+    default-length : length default ≡ w .def .size
     unfolding default
-    value-there = field-by-rule ∙ rw (by, le-leb (sourceOf s + takes s) (length src) reached)
+    default-length =
+        length-take-le (w .def .size) (drop (w .def .offset - p .header) (p .body))
+        (omega (arith, length-drop (w .def .offset - p .header) (p .body), made .body, place .low, place .high))
 
-    fits : gives s ≤ w .def .size
-    fits = let x : Within (w .def) s = rw by at (stepOf-within cat (fieldsOf srcTable) w) in x .fits
+    each : (j : ℕ) → j < w .def .size
+        → byteAt (upgraded q src dst) (w .def .offset + j) ≡ ruleByte cat (fieldsOf srcTable) (wants cat marks dstTable) src (w .def .offset + j) (byteAt default j)
+    unfolding default
+    each j h =
+        let f = w .def in
+        let b : byteAt default j ≡ byteAt (p .body) (f .offset + j - p .header) =
+        getD-take (f .size) (drop (f .offset - p .header) (p .body)) j 0 h ∙ getD-drop (f .offset - p .header) (p .body) j 0 ∙ ap (byteAt (p .body)) (omega (arith, place .low)) in
+        byte-by-rule (f .offset + j) (omega (arith, place .low)) (omega (arith, place .high))
+        ∙ ap (ruleByte cat (fieldsOf srcTable) (wants cat marks dstTable) src (f .offset + j)) (sym b)
 
-    number-there : numberAt (upgraded q src dst) (w .def .offset) (gives s) ≡ numberAt (carried src (s .op)) 0 (gives s)
-    number-there =
-        sym (number-window (upgraded q src dst) (w .def .offset) (w .def .size) (gives s) fits)
-        ∙ ap (λ (all : List ℕ). numberAt all 0 (gives s)) value-there
-        ∙ number-front (carried src (s .op)) (drop (gives s) default) 0 (gives s) (omega (arith, length-carried src s reached))
+    -- its bytes in the upgraded record
+    pub field-by-rule : window (upgraded q src dst) (w .def .offset) (w .def .size)
+        ≡ valueOf src (stepOf cat (fieldsOf srcTable) w) (window (p .body) (w .def .offset - p .header) (w .def .size))
+    unfolding default
+    field-by-rule =
+        value-at cat (fieldsOf srcTable) (wants cat marks dstTable) w src (upgraded q src dst) default (targets-apart made) one (omega (arith, long-enough, place .high)) default-length each
 
-  -- a copy: the field holds the number that the source field holds
-  pub copied-number : (source target n : ℕ) → stepOf cat (fieldsOf srcTable) w ≡ By (copy source target n) → source + n ≤ length src
-      → numberAt (upgraded q src dst) (w .def .offset) n ≡ numberAt src source n
-  copied-number source target n by reached = number-there (copy source target n) by reached ∙ number-window src source n n (omega arith)
+    -- a field's own step that the record reaches: what it carries stands at the front of the field
+    module _ (s : Step) (by : stepOf cat (fieldsOf srcTable) w ≡ By s) (reached : sourceOf s + takes s ≤ length src) where
+      value-there : window (upgraded q src dst) (w .def .offset) (w .def .size) ≡ carried src (s .op) ++ drop (gives s) default
+      unfolding default
+      value-there = field-by-rule ∙ rw (by, le-leb (sourceOf s + takes s) (length src) reached)
 
-  -- an integer step: it holds the integer that the mapping gives of the one that the source field holds
-  module _ (source target from to : ℕ) (signed marked : Bool) (by : stepOf cat (fieldsOf srcTable) w ≡ By (int source target from to signed marked)) (reached : source + from ≤ length src) where
-    width : isWidth to ≡ true
-    width =
-        let all = ap (every _) (fields-are cat marks dstTable) ∙ all-admitted cat dstTable (made .target) in
-        let ok : stepOk (int source target from to signed marked) ≡ true =
-        rw by at (stepOf-ok cat (made .catalogue) (fieldsOf srcTable) w (all-admitted cat srcTable (made .source)) (every-at (admitted cat) one all)) in
-        let a = both (widthsOk from to marked) (leb (source + from) maxBytes) ok .0 in
-        let b = both (isWidth from) (isWidth to && (not (eqb from to) && (marked || ltb from to))) a .1 in
-        both (isWidth to) (not (eqb from to) && (marked || ltb from to)) b .0
+      fits : gives s ≤ w .def .size
+      fits = let x : Within (w .def) s = rw by at (stepOf-within cat (fieldsOf srcTable) w) in x .fits
 
-    pub mapped-number-there : numberAt (upgraded q src dst) (w .def .offset) to ≡ mapInt from to signed marked (numberAt src source from)
-    mapped-number-there =
-        number-there (int source target from to signed marked) by reached ∙ mapped-number from to signed marked width (numberAt src source from)
+      number-there : numberAt (upgraded q src dst) (w .def .offset) (gives s) ≡ numberAt (carried src (s .op)) 0 (gives s)
+      number-there =
+          sym (number-window (upgraded q src dst) (w .def .offset) (w .def .size) (gives s) fits)
+          ∙ ap (λ (all : List ℕ). numberAt all 0 (gives s)) value-there
+          ∙ number-front (carried src (s .op)) (drop (gives s) default) 0 (gives s) (omega (arith, length-carried src s reached))
 
-    pub integer-by-rule : integerOf signed to (numberAt (upgraded q src dst) (w .def .offset) to) ≡ mapped from to signed marked (integerOf signed from (numberAt src source from))
-    integer-by-rule = ap (integerOf signed to) mapped-number-there ∙ mapped-integer from to signed marked width (numberAt src source from)
+    -- a copy: the field holds the number that the source field holds
+    pub copied-number : (source target n : ℕ) → stepOf cat (fieldsOf srcTable) w ≡ By (copy source target n) → source + n ≤ length src
+        → numberAt (upgraded q src dst) (w .def .offset) n ≡ numberAt src source n
+    copied-number source target n by reached = number-there (copy source target n) by reached ∙ number-window src source n n (omega arith)
+
+    -- an integer step: it holds the integer that the mapping gives of the one that the source field holds
+    module _ (source target from to : ℕ) (signed marked : Bool) (by : stepOf cat (fieldsOf srcTable) w ≡ By (int source target from to signed marked)) (reached : source + from ≤ length src) where
+      width : isWidth to ≡ true
+      width =
+          let all = ap (every _) (fields-are cat marks dstTable) ∙ all-admitted cat dstTable (made .target) in
+          let ok : stepOk (int source target from to signed marked) ≡ true =
+          rw by at (stepOf-ok cat (made .catalogue) (fieldsOf srcTable) w (all-admitted cat srcTable (made .source)) (every-at (admitted cat) one all)) in
+          let a = both (widthsOk from to marked) (leb (source + from) maxBytes) ok .0 in
+          let b = both (isWidth from) (isWidth to && (not (eqb from to) && (marked || ltb from to))) a .1 in
+          both (isWidth to) (not (eqb from to) && (marked || ltb from to)) b .0
+
+      pub mapped-number-there : numberAt (upgraded q src dst) (w .def .offset) to ≡ mapInt from to signed marked (numberAt src source from)
+      mapped-number-there =
+          number-there (int source target from to signed marked) by reached ∙ mapped-number from to signed marked width (numberAt src source from)
+
+      pub integer-by-rule : integerOf signed to (numberAt (upgraded q src dst) (w .def .offset) to) ≡ mapped from to signed marked (integerOf signed from (numberAt src source from))
+      integer-by-rule = ap (integerOf signed to) mapped-number-there ∙ mapped-integer from to signed marked width (numberAt src source from)

@@ -18,7 +18,7 @@ use Rattle.table.specs.Table.{clearOf, apart}
 use Rattle.table.proofs.Bytes.{Covers, clear}
 use Rattle.step.specs.Step.{sourceOf, takes, targetOf, gives}
 use Rattle.step.specs.declared.Step.{Step}
-use Rattle.plan.specs.Rule.{Want, stepOf}
+use Rattle.plan.specs.Rule.{Want, counts, stepOf}
 use Rattle.plan.specs.declared.rule.Carried.{Carried}
 use Rattle.plan.specs.declared.rule.Carried.the-variants.{By, Default}
 use Rattle.interpreter.specs.Run.{carried, reaches}
@@ -52,6 +52,20 @@ rule-in cat haves {w = w} src i old e (List·Memᴰ·tail {x = x} {xs = xs} m) h
         → cond b (carriedByte src (stepOf cat haves x) i old) (ruleByte cat haves xs src i old) ≡ carriedByte src (stepOf cat haves w) i old
     go true f a ih = absurd (clear (x .def) (w .def) i a (f refl) h)
     go false f a ih = ih
+
+-- a byte of no field that counts is the default's
+pub rule-out : (cat : List ℕ) (haves : List FieldDef) (ws : List Want) (src : List ℕ) (i old : ℕ)
+    → ((w : Want) → List·Memᴰ w ws → counts cat (w .def) ≡ true → Covers (w .def) i → ⊥) → ruleByte cat haves ws src i old ≡ old
+unfolding ruleByte first stepOf
+rule-out cat haves [] src i old h = refl
+rule-out cat haves (w ∷ ws) src i old h =
+    go (holds (w .def) i) (counts cat (w .def)) (holds-is (w .def) i) (h w (List·Memᴰ·head refl)) _ (rule-out cat haves ws src i old (λ v m. h v (List·Memᴰ·tail m)))
+  where
+    go : (b n : Bool) → (b ≡ true → Covers (w .def) i) → (n ≡ true → Covers (w .def) i → ⊥) → (c : Carried) → ruleByte cat haves ws src i old ≡ old
+        → cond b (carriedByte src (cond n c Default) i old) (ruleByte cat haves ws src i old) ≡ old
+    go true true f g c ih = absurd (g refl (f refl))
+    go true false f g c ih = refl
+    go false n f g c ih = ih
 
 -- ---- the bytes of a field together
 
