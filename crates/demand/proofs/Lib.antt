@@ -6,3 +6,5 @@ pub mod Upgraded
 pub mod Integers
 pub mod Fields
 pub mod Sequence
+pub mod Layouts
+pub mod Example
