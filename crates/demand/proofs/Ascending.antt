@@ -2,7 +2,7 @@
 use Prim.Native.Nat.{ℕ, suc, _+_, _≤_, _<_, min, max}
 use native.Mathlib.Omega.{arith}
 use mathlib.Core.Path.{_≡_, refl, sym, ap, _∙_}
-use mathlib.Core.Bool.{Bool, true, false, cond, not, _&&_, _||_, false≢true}
+use mathlib.Core.Bool.{Bool, true, false, cond, not, _&&_, _||_}
 use mathlib.Core.List.{List, [], _∷_}
 use borrow.Author.Tests.{leb-true, leb-false, ltb-true, ltb-false, eqb-false, le-leb, not-true}
 use lib.Dec.{leb, ltb, eqb}
@@ -16,17 +16,17 @@ use Rattle.field.specs.declared.FieldDef.{FieldDef}
 use Rattle.order.specs.Order.{insertBy, sortBy, offsetOf, byOffset}
 use Rattle.order.proofs.Kept.{every-sorted, length-sorted}
 use Rattle.order.proofs.Mapped.{sort-map}
-use Rattle.table.specs.Table.{inBounds, shareByte, clearOf, apart}
+use Rattle.table.specs.Table.{inBounds, clearOf, apart}
 use Rattle.table.specs.Parts.{chain}
-use Rattle.step.specs.Step.{copy, sourceOf, takes, targetOf, gives, endOf as stepEnd, stepOk, within, stepsOk}
+use Rattle.step.specs.Step.{copy, sourceOf, takes, targetOf, endOf as stepEnd, stepOk, stepsOk}
 use Rattle.step.specs.declared.Step.{Step}
 use Rattle.plan.specs.Rule.{Want, counts, stepOf}
 use Rattle.plan.specs.Steps.{before, stepsOf, offsetOfWant, inTargetOrder, joins, joined, joinFrom, joinAll, plannedSteps}
 use Rattle.plan.specs.declared.rule.Carried.{Carried}
 use Rattle.plan.specs.declared.rule.Carried.the-variants.{By, Default}
 use Rattle.rule.specs.Body.{defs}
-use Rattle.rule.proofs.Stores.{First, first-of, of-first}
-use Rattle.rule.proofs.Cuts.{Joined, joins-are}
+use Rattle.rule.proofs.Stores.{first-of, of-first}
+use Rattle.rule.proofs.Cuts.{joins-are}
 use Rattle.rule.proofs.Planned.{If, Within, stepOf-within}
 use Rattle.demand.proofs.Right.{admitted, copy-ok, stepOf-ok}
 

@@ -1,36 +1,32 @@
 -- Demand 3, field by field: at each target field that counts stands its carried value, or its default. Assumes nothing.
-use Prim.Native.Nat.{ℕ, zero, suc, _+_, _-_, _*_, _≤_, _<_, max}
+use Prim.Native.Nat.{ℕ, _+_, _-_, _≤_, _<_}
 use native.Mathlib.Omega.{arith}
-use mathlib.Core.Path.{_≡_, refl, sym, ap, _∙_, subst}
-use mathlib.Core.Bool.{Bool, true, false, cond, not, _&&_, _||_}
-use mathlib.Core.List.{List, [], _∷_, _++_, List·Memᴰ, List·Memᴰ·head, List·Memᴰ·tail}
+use mathlib.Core.Path.{_≡_, sym, ap, _∙_}
+use mathlib.Core.Bool.{Bool, true, not, _&&_, _||_}
+use mathlib.Core.List.{List, _++_, List·Memᴰ}
 use borrow.Author.Tests.{leb-true, le-leb}
 use lib.Dec.{leb, ltb, eqb}
 use lib.ListN.{length, take, drop, length-drop, length-append, List·getD-append}
 use lib.Seq.{length-take-le, getD-take, getD-drop, getD-append-add}
 use Rattle.limits.specs.Limits.{maxBytes}
-use Rattle.lent.specs.Bytes.{byteAt, numberAt, bytesOf, window}
-use Rattle.lent.specs.Scan.{every, first}
+use Rattle.lent.specs.Bytes.{byteAt, numberAt, window}
+use Rattle.lent.specs.Scan.{every}
 use Rattle.lent.proofs.Scan.{both}
 use Rattle.catalogue.specs.Catalogue.{isWidth}
 use Rattle.field.specs.Field.{fieldsOf, endOf}
-use Rattle.field.specs.declared.FieldDef.{FieldDef}
 use Rattle.table.proofs.Bytes.{Covers}
-use Rattle.layout.specs.Size.{lastEnd}
 use Rattle.step.specs.Step.{copy, int, sourceOf, takes, gives, stepOk, widthsOk}
 use Rattle.step.specs.declared.Step.{Step}
 use Rattle.slot.specs.Plan.{Plan}
 use Rattle.plan.specs.Rule.{Want, counts, wants, stepOf}
-use Rattle.plan.specs.declared.rule.Carried.{Carried}
-use Rattle.plan.specs.declared.rule.Carried.the-variants.{By, Default}
+use Rattle.plan.specs.declared.rule.Carried.the-variants.{By}
 use Rattle.mapping.specs.Mapping.{integerOf, mapped, mapInt}
-use Rattle.interpreter.specs.Run.{carried, reaches, upgraded}
-use Rattle.rule.specs.Bytewise.{bytewise}
-use Rattle.rule.specs.Body.{defs, ruleByte, ruleBody, valueOf}
+use Rattle.interpreter.specs.Run.{carried, upgraded}
+use Rattle.rule.specs.Body.{ruleByte, ruleBody, valueOf}
 use Rattle.rule.proofs.Stores.{length-bytewise, byte-bytewise, length-carried}
-use Rattle.rule.proofs.Planned.{If, Within, stepOf-within}
+use Rattle.rule.proofs.Planned.{Within, stepOf-within}
 use Rattle.rule.proofs.Values.{every-at, rule-out, value-at, number-window, number-front}
-use Rattle.demand.specs.Demand.{Admitted, Planned, Recuts, afterHeader}
+use Rattle.demand.specs.Demand.{Planned, Recuts}
 use Rattle.demand.proofs.Right.{admitted, stepOf-ok}
 use Rattle.demand.proofs.Ascending.{placed}
 use Rattle.demand.proofs.Tables.{fields-are, all-admitted, all-placed}

@@ -2,14 +2,14 @@
 use Prim.Native.Nat.{ℕ, zero, suc, _+_, _-_, _*_, _/_, _%_, _^_, _≤_, _<_}
 use native.Mathlib.Nat.{pow-succ'}
 use native.Mathlib.Omega.{arith}
-use mathlib.Core.Path.{_≡_, refl, sym, ap, _∙_}
-use mathlib.Core.Bool.{Bool, true, false, cond, _&&_, _||_, false≢true}
-use mathlib.Core.List.{List, [], _∷_}
-use borrow.Author.Tests.{ltb-true, ltb-false, leb-true, leb-false, lt-ltb, le-ltb, le-leb, lt-leb}
+use mathlib.Core.Path.{_≡_, refl, _∙_}
+use mathlib.Core.Bool.{Bool, true, false, cond, _&&_, _||_}
+use mathlib.Core.List.{List, _∷_}
+use borrow.Author.Tests.{ltb-false, leb-true, leb-false, lt-ltb, le-ltb}
 use lib.Dec.{leb, ltb, eqb}
 use Rattle.lent.specs.Bytes.{byteAt, numberAt, bytesOf}
 use Rattle.catalogue.specs.Catalogue.{isWidth}
-use Rattle.mapping.specs.Mapping.{half, span, mid, integerOf, least, largest, numberOf, outside, mapped, mapInt}
+use Rattle.mapping.specs.Mapping.{half, span, mid, integerOf, least, largest, numberOf, mapped, mapInt}
 use Rattle.demand.proofs.Types.{width-cases}
 
 -- ---- the bytes of a number hold it
@@ -70,15 +70,15 @@ module _ (n : ℕ) (holds : Holds n) where
   again : (signed : Bool) (p : ℕ) → least signed n ≤ p → p ≤ largest signed n → integerOf signed n (numberOf signed n p) ≡ p
   unfolding least largest numberOf integerOf span
   again false p a b = refl
-  again true p a b = go (leb mid p) (leb-true mid p) (leb-false mid p) where
+  again true p a b = go (leb mid p) (leb-true mid p) (leb-false mid p) _ refl where
     go : (t : Bool) → (t ≡ true → mid ≤ p) → (t ≡ false → p < mid)
-        → cond (ltb (cond t (p - mid) (p + (half n + half n) - mid)) (half n)) (mid + cond t (p - mid) (p + (half n + half n) - mid)) (mid + cond t (p - mid) (p + (half n + half n) - mid) - (half n + half n)) ≡ p
-    go true f g =
+        → (v : ℕ) → v ≡ cond t (p - mid) (p + (half n + half n) - mid) → cond (ltb v (half n)) (mid + v) (mid + v - (half n + half n)) ≡ p
+    go true f g v e =
         let k : mid ≤ p = f refl in
-        rw (lt-ltb (p - mid) (half n) (omega (arith, holds .low, holds .high))) (omega arith)
-    go false f g =
+        rw (lt-ltb v (half n) (omega (arith, holds .low, holds .high))) (omega arith)
+    go false f g v e =
         let k : p < mid = g refl in
-        rw (le-ltb (p + (half n + half n) - mid) (half n) (omega (arith, holds .low, holds .high))) (omega (arith, holds .low, holds .high))
+        rw (le-ltb v (half n) (omega (arith, holds .low, holds .high))) (omega (arith, holds .low, holds .high))
 
 module _ (from to : ℕ) (signed marked : Bool) (width : isWidth to ≡ true) (v : ℕ) where
   inside : (least signed to ≤ mapped from to signed marked (integerOf signed from v)) × (mapped from to signed marked (integerOf signed from v) ≤ largest signed to)

@@ -1,26 +1,25 @@
 -- What admission says of a record of an admitted layout, and a plan made of two such records. Assumes nothing.
-use Prim.Native.Nat.{ℕ, _+_, _*_, _≤_, _<_, max}
+use Prim.Native.Nat.{ℕ, _+_, _*_, _≤_, _<_}
 use native.Mathlib.Omega.{arith}
-use mathlib.Core.Path.{_≡_, sym, ap, _∙_}
-use mathlib.Core.Bool.{Bool, true, false, cond, _&&_}
-use mathlib.Core.List.{List, [], _∷_, List·Memᴰ, List·Memᴰ·head, List·Memᴰ·tail}
+use mathlib.Core.Path.{_≡_, ap, _∙_}
+use mathlib.Core.Bool.{Bool, true, false, cond}
+use mathlib.Core.List.{List, [], List·Memᴰ, List·Memᴰ·head, List·Memᴰ·tail}
 use native.Mathlib.Decide.{decLt}
 use borrow.Author.Tests.{leb-true}
 use lib.Dec.{leb}
 use lib.ListN.{length, drop, length-take, List·getD-eq-default}
 use lib.Seq.{getD-take, getD-drop}
 use Rattle.limits.specs.Limits.{maxBytes, maxHeader, maxFields}
-use Rattle.lent.specs.Bytes.{byteAt, numberAt, window, hasWindow, partOf}
+use Rattle.lent.specs.Bytes.{numberAt, window, hasWindow, partOf}
 use Rattle.lent.specs.Scan.{every}
 use Rattle.lent.proofs.Scan.{both, nth}
 use Rattle.field.specs.Field.{fieldsOf}
-use Rattle.table.specs.Table.{tableOk}
 use Rattle.table.specs.declared.Rule.{Rule}
 use Rattle.table.specs.declared.Rule.the-variants.{Reserved, Bounds, Apart, Width}
 use Rattle.layout.specs.Layout.{startAt, lengthAt, RecordLayout, recordAt, countOf, heads}
 use Rattle.layout.specs.Size.{recordSize}
 use Rattle.layout.specs.Shape.{recordShape, headShape, countsOk, shapeOk}
-use Rattle.layout.specs.declared.block.Holder.the-variants.{Record, Struct}
+use Rattle.layout.specs.declared.block.Holder.the-variants.{Record}
 use Rattle.layout.proofs.Shapes.{few-in-record}
 use Rattle.admission.specs.Admission.{headOk, layoutOk}
 use Rattle.admission.proofs.When.{Passed}

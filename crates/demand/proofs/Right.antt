@@ -1,21 +1,21 @@
 -- The step between two admitted fields keeps a plan's rules on one step. Assumes nothing.
-use Prim.Native.Nat.{ℕ, zero, suc, _+_, _≤_, _<_}
+use Prim.Native.Nat.{ℕ, _+_, _≤_, _<_}
 use native.Mathlib.Omega.{arith}
-use mathlib.Core.Path.{_≡_, refl, sym, ap, _∙_, subst}
-use mathlib.Core.Bool.{Bool, true, false, cond, not, _&&_, _||_, false≢true}
+use mathlib.Core.Path.{_≡_, refl, sym, _∙_, subst}
+use mathlib.Core.Bool.{Bool, true, false, not, _&&_, _||_, false≢true}
 use mathlib.Core.List.{List}
-use borrow.Author.Tests.{leb-true, ltb-true, eqb-true, eq-eqb, ne-eqb, le-leb, not-true, not-false}
+use borrow.Author.Tests.{leb-true, ltb-true, eqb-true, eq-eqb, ne-eqb, le-leb, not-false}
 use lib.Dec.{leb, ltb, eqb}
 use Rattle.limits.specs.Limits.{maxBytes}
 use Rattle.lent.specs.Scan.{every}
 use Rattle.lent.proofs.Scan.{both}
 use Rattle.catalogue.specs.Catalogue.{unsigned, signed, classOf, widthOf, isWidth, catalogueOk}
-use Rattle.field.specs.Field.{endOf, isArray, isInteger, isPlainInteger, byteOf}
+use Rattle.field.specs.Field.{endOf, isArray, isInteger}
 use Rattle.field.specs.declared.FieldDef.{FieldDef}
 use Rattle.table.specs.Table.{inBounds, widthOk}
-use Rattle.step.specs.Step.{copy, int, stepOk, widthsOk}
+use Rattle.step.specs.Step.{copy, int, stepOk}
 use Rattle.step.specs.declared.Step.{Step}
-use Rattle.plan.specs.Rule.{Want, counts, sameScale, sameArrayness, sameKind, apart, isString, isSigned, sameSign, sameId, stepFor, stepOf}
+use Rattle.plan.specs.Rule.{Want, counts, sameScale, sameKind, apart, isString, isSigned, sameSign, sameId, stepFor, stepOf}
 use Rattle.rule.proofs.Planned.{If, if-cond, if-first}
 use Rattle.demand.proofs.Types.{integer-width, one-type}
 

@@ -1,23 +1,20 @@
 -- A sequence number is carried as it is. Assumes nothing.
-use Prim.Native.Nat.{ℕ, _+_, _≤_, _<_}
+use Prim.Native.Nat.{ℕ, _≤_}
 use native.Mathlib.Omega.{arith}
-use mathlib.Core.Path.{_≡_, refl, sym, ap, _∙_}
-use mathlib.Core.Bool.{Bool, true, false, cond, _||_}
+use mathlib.Core.Path.{_≡_, sym, ap, _∙_}
+use mathlib.Core.Bool.{Bool, true, false, cond}
 use mathlib.Core.List.{List, [], _∷_, List·Memᴰ}
-use mathlib.Core.Option.{Option, none, some}
+use mathlib.Core.Option.{none, some}
 use borrow.Author.Tests.{eq-eqb}
-use lib.Dec.{eqb}
 use lib.ListN.{length}
 use Rattle.lent.specs.Bytes.{numberAt}
 use Rattle.lent.specs.Scan.{every, first}
 use Rattle.lent.proofs.Scan.{both}
-use Rattle.catalogue.specs.Catalogue.{unsigned, classOf}
 use Rattle.field.specs.Field.{fieldsOf, endOf, isInteger, byteOf}
 use Rattle.field.specs.declared.FieldDef.{FieldDef}
 use Rattle.step.specs.Step.{copy}
 use Rattle.slot.specs.Plan.{Plan}
 use Rattle.plan.specs.Rule.{Want, counts, sameKind, sameId, wants, stepFor, stepOf}
-use Rattle.plan.specs.declared.rule.Carried.{Carried}
 use Rattle.plan.specs.declared.rule.Carried.the-variants.{By, Default}
 use Rattle.interpreter.specs.Run.{upgraded}
 use Rattle.rule.proofs.Values.{every-at}

@@ -1,9 +1,9 @@
 -- What admitted tables give the planner's laws, and the target's fields with their marks as fields. Assumes nothing.
-use Prim.Native.Nat.{ℕ, zero, suc, _+_, _*_, _/_, _≤_, _<_, max}
+use Prim.Native.Nat.{ℕ, zero, suc, _+_, _/_, _≤_}
 use native.Mathlib.Omega.{arith}
-use mathlib.Core.Path.{_≡_, refl, sym, ap, _∙_}
-use mathlib.Core.Bool.{Bool, true, false, not, _&&_, _||_}
-use mathlib.Core.List.{List, [], _∷_, map}
+use mathlib.Core.Path.{_≡_, refl, ap}
+use mathlib.Core.Bool.{Bool, true, _&&_}
+use mathlib.Core.List.{List, [], _∷_}
 use borrow.Author.Tests.{leb-true, lt-ltb, le-leb}
 use lib.Dec.{leb, ltb}
 use lib.ListN.{length}
@@ -13,10 +13,10 @@ use Rattle.lent.specs.Scan.{gather, every}
 use Rattle.lent.proofs.Scan.{both}
 use Rattle.field.specs.Field.{fieldAt, fieldsOf, endOf}
 use Rattle.field.specs.declared.FieldDef.{FieldDef}
-use Rattle.table.specs.Table.{inBounds, widthOk, apart}
-use Rattle.table.specs.declared.Rule.the-variants.{Bounds, Apart, Width}
+use Rattle.table.specs.Table.{inBounds, widthOk}
+use Rattle.table.specs.declared.Rule.the-variants.{Bounds, Width}
 use Rattle.layout.specs.Size.{lastEnd}
-use Rattle.plan.specs.Rule.{Want, wantAt, wants}
+use Rattle.plan.specs.Rule.{wantAt, wants}
 use Rattle.rule.specs.Body.{defs}
 use Rattle.demand.specs.Demand.{Bytes, Admitted, afterHeader}
 use Rattle.slot.specs.Plan.{isByte}

@@ -1,17 +1,17 @@
 -- What a valid catalogue says of integers: each has a width, and a class and a width have one type id. Assumes nothing.
-use Prim.Native.Nat.{ℕ, zero, suc, _+_, _*_, _/_, _%_, _≤_, _<_}
+use Prim.Native.Nat.{ℕ, zero, suc, _+_, _*_, _≤_, _<_}
 use native.Mathlib.Nat.{zero-add, not-suc-le-zero}
 use native.Mathlib.Omega.{arith}
-use mathlib.Core.Path.{_≡_, refl, sym, ap, _∙_, subst}
-use mathlib.Core.Bool.{Bool, true, false, cond, _&&_, _||_, false≢true}
+use mathlib.Core.Path.{_≡_, refl, sym, ap, subst}
+use mathlib.Core.Bool.{Bool, true, false, _&&_, _||_, false≢true}
 use mathlib.Core.List.{List}
-use borrow.Author.Tests.{eqb-true, leb-true, le-leb}
-use lib.Dec.{leb, ltb, eqb}
+use borrow.Author.Tests.{eqb-true, le-leb}
+use lib.Dec.{eqb}
 use lib.ListN.{length}
 use Rattle.lent.specs.Bytes.{byteAt}
 use Rattle.lent.specs.Scan.{gather, every, tally}
 use Rattle.lent.proofs.Scan.{both, nth}
-use Rattle.catalogue.specs.Catalogue.{unsigned, signed, other, decimal, padding, classOf, widthOf, kinds, arrayFlag, extensionFlag, isWidth, kindOk, within, countKind, oneEach, othersOk, flagsOk, catalogueOk}
+use Rattle.catalogue.specs.Catalogue.{unsigned, signed, classOf, widthOf, kinds, arrayFlag, extensionFlag, isWidth, kindOk, within, countKind, oneEach, othersOk, flagsOk, catalogueOk}
 
 -- ---- one of many
 

@@ -1,11 +1,11 @@
 -- Demand 3: whatever plan is used that differs from the planner's only in cuts, an upgraded record has the field rule's body. Assumes nothing.
-use Prim.Native.Nat.{ℕ, _+_, _-_, _*_, _/_, _≤_, _<_, max}
+use Prim.Native.Nat.{ℕ, _+_, _-_, _/_, _≤_, _<_}
 use native.Mathlib.Omega.{arith}
 use mathlib.Core.Path.{_≡_, refl, sym, ap, _∙_}
 use mathlib.Core.Bool.{Bool, true, false, cond, _&&_}
-use mathlib.Core.List.{List, [], _∷_, _++_, append-assoc}
-use borrow.Author.Tests.{leb-true, leb-false, ltb-true, ltb-false, le-leb, lt-ltb, eq-eqb}
-use lib.Dec.{leb, ltb, eqb}
+use mathlib.Core.List.{List, _++_, append-assoc}
+use borrow.Author.Tests.{leb-true, leb-false, ltb-true, ltb-false, le-leb, eq-eqb}
+use lib.Dec.{leb, ltb}
 use lib.ListN.{length, take, drop}
 use lib.Seq.{sets, sets-eq, length-sets, ext-getD}
 use Rattle.limits.specs.Limits.{maxBytes, maxHeader, maxSteps}
@@ -13,14 +13,13 @@ use Rattle.lent.specs.Bytes.{byteAt}
 use Rattle.lent.specs.Scan.{every}
 use Rattle.lent.proofs.Scan.{both}
 use Rattle.field.specs.Field.{fieldsOf}
-use Rattle.field.specs.declared.FieldDef.{FieldDef}
 use Rattle.table.specs.Table.{apart}
 use Rattle.table.specs.declared.Rule.the-variants.{Bounds, Apart}
 use Rattle.layout.specs.Size.{lastEnd}
 use Rattle.step.specs.Step.{stepsOk}
 use Rattle.step.specs.declared.Step.{Step}
-use Rattle.slot.specs.Plan.{Plan, rtypesOk, sizesOk, isByte, bodyOk, planOk}
-use Rattle.plan.specs.Rule.{Want, wants}
+use Rattle.slot.specs.Plan.{Plan, rtypesOk, sizesOk, bodyOk, planOk}
+use Rattle.plan.specs.Rule.{wants}
 use Rattle.plan.specs.Steps.{plannedSteps}
 use Rattle.interpreter.specs.Run.{run, upgraded}
 use Rattle.rule.specs.Bytewise.{runByte, bytewise}
@@ -28,7 +27,7 @@ use Rattle.rule.specs.Body.{defs, ruleByte, ruleBody}
 use Rattle.rule.specs.Recut.{Recut, same}
 use Rattle.rule.proofs.Stores.{length-bytewise, byte-bytewise, get, run-out, run-length, run-byte}
 use Rattle.rule.proofs.Planned.{planned-byte}
-use Rattle.demand.specs.Demand.{Bytes, Admitted, Planned, withSteps, Recuts}
+use Rattle.demand.specs.Demand.{Planned, Recuts}
 use Rattle.demand.proofs.Ascending.{planned-few, planned-steps-ok}
 use Rattle.demand.proofs.Tables.{fields-are, wants-length, all-admitted, all-placed, last-inside, every-byte}
 

@@ -11,7 +11,7 @@ use lib.ListN.{length, drop}
 use lib.Seq.{getD-take, getD-drop}
 use Rattle.lent.specs.Bytes.{byteAt}
 use Rattle.lent.proofs.Scan.{both}
-use Rattle.step.specs.Step.{copy, sourceOf, takes, targetOf, endOf}
+use Rattle.step.specs.Step.{copy, sourceOp, takesOp, targetOp, sourceOf, takes, targetOf}
 use Rattle.step.specs.declared.Op.{Op}
 use Rattle.step.specs.declared.Op.the-variants.{Copy, Int}
 use Rattle.step.specs.declared.Step.{Step}
@@ -97,7 +97,7 @@ joins-are srcBase base a b e =
     let ev : sourceOf a + takes a ≡ sourceOf b = eqb-true _ _ (v .0) in
     let ew : targetOf a + takes a ≡ targetOf b = eqb-true _ _ (v .1) in
     record { first = is-copy (a .op) (q .0); second = rw (ev, ew) (is-copy (b .op) (q .1)); inside = omega arith } where
-      is-copy : (op : Op) → isCopy op ≡ true → _≡_ {A = Step} (record { op = op }) (copy (sourceOf (record { op = op })) (targetOf (record { op = op })) (takes (record { op = op })))
+      is-copy : (op : Op) → isCopy op ≡ true → _≡_ {A = Step} (record { op = op }) (copy (sourceOp op) (targetOp op) (takesOp op))
       is-copy (Copy source target size) e = refl
       is-copy (Int source target from to signed marked) e = absurd (false≢true e)
 
@@ -105,7 +105,8 @@ module _ (srcBase base : ℕ) where
   join-recut : (a b : Step) (ss : List Step) → joins srcBase base a b ≡ true → Recut srcBase (joined a b ∷ ss) (a ∷ b ∷ ss)
   join-recut a b ss e =
       let j = joins-are srcBase base a b e in
-      cut [] ss (sourceOf a) (targetOf a) (takes a) (takes b) (j .inside) refl (ap (λ (s : Step). s ∷ b ∷ ss) (j .first) ∙ ap (λ (s : Step). copy (sourceOf a) (targetOf a) (takes a) ∷ s ∷ ss) (j .second))
+      cut [] ss (sourceOf a) (targetOf a) (takes a) (takes b) (j .inside) refl
+      (ap (λ (s : Step). s ∷ b ∷ ss) (j .first) ∙ ap (λ (s : Step). copy (sourceOf a) (targetOf a) (takes a) ∷ s ∷ ss) (j .second))
 
   joinFrom-recut : (a : Step) (ss : List Step) → Recut srcBase (joinFrom srcBase base a ss) (a ∷ ss)
   unfolding joinFrom

@@ -1,5 +1,5 @@
 -- The planner's steps give the field rule's byte. Assumes nothing.
-use Prim.Native.Nat.{ℕ, _+_, _-_, _≤_, _<_}
+use Prim.Native.Nat.{ℕ, _≤_}
 use native.Mathlib.Omega.{arith}
 use mathlib.Core.Path.{_≡_, refl, sym, ap, _∙_}
 use mathlib.Core.Bool.{Bool, true, false, cond, _&&_, _||_, false≢true}
@@ -11,7 +11,7 @@ use Rattle.lent.specs.Scan.{every, first}
 use Rattle.lent.proofs.Scan.{both}
 use Rattle.field.specs.Field.{endOf}
 use Rattle.field.specs.declared.FieldDef.{FieldDef}
-use Rattle.order.specs.Order.{insertBy, sortBy, offsetOf, byOffset}
+use Rattle.order.specs.Order.{insertBy, sortBy, offsetOf}
 use Rattle.order.proofs.Kept.{every-sorted}
 use Rattle.order.proofs.Mapped.{sort-map}
 use Rattle.table.specs.Table.{clearOf, apart}

@@ -1,5 +1,5 @@
 -- The field rule's body, field by field. Assumes nothing.
-use Prim.Native.Nat.{ℕ, zero, suc, _+_, _-_, _*_, _≤_, _<_}
+use Prim.Native.Nat.{ℕ, zero, suc, _+_, _-_, _≤_, _<_}
 use native.Mathlib.Decide.{decLt}
 use native.Mathlib.Omega.{arith}
 use mathlib.Core.Path.{_≡_, refl, sym, ap, _∙_, subst}
@@ -7,7 +7,7 @@ use mathlib.Core.Bool.{Bool, true, false, cond, _&&_}
 use mathlib.Core.List.{List, [], _∷_, _++_, List·Memᴰ, List·Memᴰ·head, List·Memᴰ·tail}
 use borrow.Author.Tests.{leb-true, le-leb, lt-ltb, le-ltb}
 use lib.Dec.{leb, ltb}
-use lib.ListN.{length, take, drop, length-drop, length-append, List·getD-append}
+use lib.ListN.{length, drop, length-drop, length-append, List·getD-append}
 use lib.Seq.{length-take-le, getD-take, getD-drop, getD-append-add, ext-getD}
 use Rattle.lent.specs.Bytes.{byteAt, numberAt, window}
 use Rattle.lent.specs.Scan.{every, first}
@@ -17,7 +17,6 @@ use Rattle.field.specs.declared.FieldDef.{FieldDef}
 use Rattle.table.specs.Table.{clearOf, apart}
 use Rattle.table.proofs.Bytes.{Covers, clear}
 use Rattle.step.specs.Step.{sourceOf, takes, targetOf, gives}
-use Rattle.step.specs.declared.Step.{Step}
 use Rattle.plan.specs.Rule.{Want, counts, stepOf}
 use Rattle.plan.specs.declared.rule.Carried.{Carried}
 use Rattle.plan.specs.declared.rule.Carried.the-variants.{By, Default}
@@ -40,7 +39,8 @@ unfolding apart ruleByte first
 rule-in cat haves {w = w} src i old e (List·Memᴰ·head {x = x} {xs = xs} p) h =
     go (holds (x .def) i) (holds-not (x .def) i) ∙ ap (λ (v : Want). carriedByte src (stepOf cat haves v) i old) (sym p)
   where
-    go : (b : Bool) → (b ≡ false → Covers (x .def) i → ⊥) → cond b (carriedByte src (stepOf cat haves x) i old) (ruleByte cat haves xs src i old) ≡ carriedByte src (stepOf cat haves x) i old
+    go : (b : Bool) → (b ≡ false → Covers (x .def) i → ⊥)
+        → cond b (carriedByte src (stepOf cat haves x) i old) (ruleByte cat haves xs src i old) ≡ carriedByte src (stepOf cat haves x) i old
     go true f = refl
     go false f = absurd (f refl (subst (λ (v : Want). Covers (v .def) i) p h))
 rule-in cat haves {w = w} src i old e (List·Memᴰ·tail {x = x} {xs = xs} m) h =
