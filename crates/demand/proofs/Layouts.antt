@@ -4,11 +4,9 @@ use native.Mathlib.Omega.{arith}
 use mathlib.Core.Path.{_≡_, ap, _∙_}
 use mathlib.Core.Bool.{Bool, true, false, cond}
 use mathlib.Core.List.{List, [], List·Memᴰ, List·Memᴰ·head, List·Memᴰ·tail}
-use native.Mathlib.Decide.{decLt}
 use borrow.Author.Tests.{leb-true}
 use lib.Dec.{leb}
-use lib.ListN.{length, drop, length-take, List·getD-eq-default}
-use lib.Seq.{getD-take, getD-drop}
+use lib.ListN.{length}
 use Rattle.limits.specs.Limits.{maxBytes, maxHeader, maxFields}
 use Rattle.lent.specs.Bytes.{numberAt, window, hasWindow, partOf}
 use Rattle.lent.specs.Scan.{every}
@@ -24,18 +22,12 @@ use Rattle.layout.proofs.Shapes.{few-in-record}
 use Rattle.admission.specs.Admission.{headOk, layoutOk}
 use Rattle.admission.proofs.When.{Passed}
 use Rattle.slot.specs.Plan.{Plan, rtypesOk}
+use Rattle.slot.proofs.Checking.{bytes-window}
 use Rattle.plan.specs.Rule.{wants}
 use Rattle.plan.specs.Steps.{plannedSteps}
 use Rattle.demand.specs.Demand.{Bytes, Admitted, afterHeader, Planned}
 
 -- ---- bytes of a part
-
-bytes-window : (s : List ℕ) (at n : ℕ) → Bytes s → Bytes (window s at n)
-bytes-window s at n h i =
-    elim (decLt i n) [
-      | yes k ↦ rw (getD-take n (drop at s) i 0 k, getD-drop at s i 0) (h (at + i))
-      | no k ↦ rw (List·getD-eq-default (window s at n) 0 {n = i} (omega (arith, length-take n (drop at s)))) (omega arith)
-    ]
 
 bytes-part : (s : List ℕ) (at n : ℕ) → Bytes s → Bytes (partOf s at n)
 unfolding partOf

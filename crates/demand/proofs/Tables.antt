@@ -19,7 +19,7 @@ use Rattle.layout.specs.Size.{lastEnd}
 use Rattle.plan.specs.Rule.{wantAt, wants}
 use Rattle.rule.specs.Body.{defs}
 use Rattle.demand.specs.Demand.{Bytes, Admitted, afterHeader}
-use Rattle.slot.specs.Plan.{isByte}
+use Rattle.slot.proofs.Checking.{gathered-length}
 use Rattle.demand.proofs.Right.{admitted}
 use Rattle.demand.proofs.Ascending.{placed}
 
@@ -32,13 +32,8 @@ defs-are cat marks t at (suc n) = ap (λ (l : List FieldDef). fieldAt t at ∷ l
 pub fields-are : (cat marks t : List ℕ) → defs (wants cat marks t) ≡ fieldsOf t
 fields-are cat marks t = defs-are cat marks t 0 (length t / 16)
 
-gathered : {A : Type 0} (read : ℕ → A) (step at n : ℕ) → length (gather read step at n) ≡ n
-unfolding gather
-gathered read step at zero = refl
-gathered read step at (suc n) = ap suc (gathered read step (at + step) n)
-
 pub wants-length : (cat marks t : List ℕ) → length (wants cat marks t) ≡ length t / 16
-wants-length cat marks t = gathered (wantAt cat marks t) 16 0 (length t / 16)
+wants-length cat marks t = gathered-length (wantAt cat marks t) 16 0 (length t / 16)
 
 -- ---- tests of all fields, put together
 
@@ -76,8 +71,3 @@ last-inside most (f ∷ fs) e =
     let b : endOf f ≤ most = leb-true _ _ (both (ltb 0 (f .size)) (leb (endOf f) most) (a .0) .1) in
     let c = last-inside most fs (a .1) in
     omega arith
-
-pub every-byte : (s : List ℕ) → Bytes s → every isByte s ≡ true
-unfolding every
-every-byte [] h = refl
-every-byte (x ∷ xs) h = rw (lt-ltb x 256 (h 0)) (every-byte xs (λ i. h (suc i)))

@@ -19,6 +19,7 @@ use Rattle.layout.specs.Size.{lastEnd}
 use Rattle.step.specs.Step.{stepsOk}
 use Rattle.step.specs.declared.Step.{Step}
 use Rattle.slot.specs.Plan.{Plan, rtypesOk, sizesOk, bodyOk, planOk}
+use Rattle.slot.proofs.Checking.{bytes-every}
 use Rattle.plan.specs.Rule.{wants}
 use Rattle.plan.specs.Steps.{plannedSteps}
 use Rattle.interpreter.specs.Run.{run, upgraded}
@@ -29,7 +30,7 @@ use Rattle.rule.proofs.Stores.{length-bytewise, byte-bytewise, get, run-out, ru
 use Rattle.rule.proofs.Planned.{planned-byte}
 use Rattle.demand.specs.Demand.{Planned, Recuts}
 use Rattle.demand.proofs.Ascending.{planned-few, planned-steps-ok}
-use Rattle.demand.proofs.Tables.{fields-are, wants-length, all-admitted, all-placed, last-inside, every-byte}
+use Rattle.demand.proofs.Tables.{fields-are, wants-length, all-admitted, all-placed, last-inside}
 
 -- ---- steps that change each byte by a rule, on a target that a body was stored in
 
@@ -132,7 +133,7 @@ module _ {cat srcTable dstTable marks : List ℕ} {p : Plan} (made : Planned cat
         le-leb (p .header) (p .size) (omega (arith, made .body)),
         le-leb (p .base) (p .size) (omega (arith, made .size)),
         eq-eqb (p .header + length (p .body)) (p .size) (made .body),
-        every-byte (p .body) (made .bytes),
+        bytes-every (p .body) (made .bytes),
         le-leb (length (p .steps)) maxSteps most,
         planned-ascend,
       )
