@@ -89,7 +89,7 @@ module _ {cat srcTable dstTable marks : List ℕ} {p : Plan} (made : Planned cat
   pub targets-apart : apart (defs (wants cat marks dstTable)) ≡ true
   targets-apart = ap apart (fields-are cat marks dstTable) ∙ made .target .rules Apart
 
-  -- demand 3
+  -- demand 3: the header as found, the field rule's body, the tail as found
   pub upgraded-by-rule : {q : Plan} → Recuts p q → (src dst : List ℕ) → p .srcBase ≤ length src → p .size ≤ length dst
       → upgraded q src dst
       ≡ take (p .header) dst ++ (ruleBody cat (fieldsOf srcTable) (wants cat marks dstTable) src (p .header) (p .body) ++ drop (p .size) dst)
