@@ -22,7 +22,8 @@ returns-2 : tie.Need-returns-2
 unfolding defaultsOk
 returns-2 c =
     let e : c .before .before .before .before .before .before .before .args .header + length (c .before .before .before .before .before .before .before .args .body .now) ≡ c .before .before .before .before .before .before .before .args .size = omega arith in
-    rw (eq-eqb (c .before .before .before .before .before .before .before .args .header + length (c .before .before .before .before .before .before .before .args .body .now)) (c .before .before .before .before .before .before .before .args .size) e, ← c .before .gaps-zero .ensures, not-true _ (c .if2 .taken))
+    let gaps = not-true (c .before .gaps-zero .result) (c .if2 .taken) in
+    rw (eq-eqb (c .before .before .before .before .before .before .before .args .header + length (c .before .before .before .before .before .before .before .args .body .now)) (c .before .before .before .before .before .before .before .args .size) e, ← c .before .gaps-zero .ensures, gaps)
 
 marks-hold-requires : tie.Need-marks-hold-requires
 marks-hold-requires c κs = search needs
@@ -31,7 +32,8 @@ returns-3 : tie.Need-returns-3
 unfolding defaultsOk
 returns-3 c =
     let e : c .before .before .before .before .before .before .before .before .args .header + length (c .before .before .before .before .before .before .before .before .args .body .now) ≡ c .before .before .before .before .before .before .before .before .args .size = omega arith in
-    rw (eq-eqb (c .before .before .before .before .before .before .before .before .args .header + length (c .before .before .before .before .before .before .before .before .args .body .now)) (c .before .before .before .before .before .before .before .before .args .size) e, ← c .before .before .gaps-zero .ensures, not-false _ (c .before .if2 .left)) (c .marks-hold .ensures)
+    let gaps = not-false (c .before .before .gaps-zero .result) (c .before .if2 .left) in
+    rw (eq-eqb (c .before .before .before .before .before .before .before .before .args .header + length (c .before .before .before .before .before .before .before .before .args .body .now)) (c .before .before .before .before .before .before .before .before .args .size) e, ← c .before .before .gaps-zero .ensures, gaps) (c .marks-hold .ensures)
 
 pub defaults-ok-spec : {M : Type 1} → statement M
 defaults-ok-spec =

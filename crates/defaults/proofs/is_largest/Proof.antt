@@ -48,9 +48,11 @@ loop-less c = omega arith
 
 loop-again : tie.Need-loop-again Inv-loop μ-loop
 loop-again c =
-    let a = (c .before .before .before .before .before .before .args) in let l = (c .before .before .before .before .loop) in
-    (omega arith, goes (λ (p : ℕ). p) 1 (l .i) (l .left) (λ k. eqb (byteAt (a .body .now) (a .from + k)) (largestByte (a .signed) (a .n) k)) _ (l .inv .1) (omega arith)
-    (rw (← last-is (l .i) (l .left) (a .n) (l .inv .0), ← c .before .byte-at .ensures, ← c .before .before .largest-byte .ensures) (eq-eqb _ _ (c .if1 .left))))
+    let a = (c .before .before .before .before .before .before .args) in let l = (c .before .before .before .before .loop) in (
+      omega arith,
+      goes (λ (p : ℕ). p) 1 (l .i) (l .left) (λ k. eqb (byteAt (a .body .now) (a .from + k)) (largestByte (a .signed) (a .n) k)) _ (l .inv .1) (omega arith)
+          (rw (← last-is (l .i) (l .left) (a .n) (l .inv .0), ← c .before .byte-at .ensures, ← c .before .before .largest-byte .ensures) (eq-eqb _ _ (c .if1 .left))),
+    )
 
 returns-2 : tie.Need-returns-2 Inv-loop μ-loop
 returns-2 c =

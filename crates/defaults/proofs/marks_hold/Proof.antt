@@ -41,9 +41,11 @@ loop-less c = omega arith
 
 loop-again : tie.Need-loop-again Inv-loop μ-loop
 loop-again c =
-    let a = (c .before .before .before .before .before .before .before .before .args) in let l = (c .before .before .before .loop) in
-    (omega arith, goes (wantAt (a .cat .now) (a .marks .now) (a .table .now)) 16 (l .at) (l .left) (markHolds (a .cat .now) (a .header) (a .body .now)) _ (l .inv .1) (omega arith)
-    (rw (← c .before .mark-holds .ensures) (not-false _ (c .if1 .left))))
+    let a = (c .before .before .before .before .before .before .before .before .args) in let l = (c .before .before .before .loop) in (
+      omega arith,
+      goes (wantAt (a .cat .now) (a .marks .now) (a .table .now)) 16 (l .at) (l .left) (markHolds (a .cat .now) (a .header) (a .body .now)) _ (l .inv .1) (omega arith)
+          (rw (← c .before .mark-holds .ensures) (not-false _ (c .if1 .left))),
+    )
 
 returns-2 : tie.Need-returns-2 Inv-loop μ-loop
 returns-2 c =
