@@ -1,0 +1,2 @@
+pub mod Planner
+pub mod Select
