@@ -1,0 +1,38 @@
+-- Stores one behind the other. Assumes nothing.
+use mathlib.Core.Path.{_≡_, refl, sym, ap, _∙_}
+use mathlib.Core.List.{List, [], _∷_, _++_}
+use Prim.Native.Nat.{ℕ, zero, suc, _+_, _≤_, _<_}
+use native.Mathlib.Omega.{arith}
+use native.Mathlib.Nat.{add-zero, add-suc}
+use lib.ListN.{length, take, drop, set, length-append, length-set}
+use lib.Seq.{sets, length-sets, sets-eq, take-at}
+use Rattle.decimal.specs.Put.{Put}
+
+sets-then : (d : List ℕ) (at : ℕ) (xs ys : List ℕ) → sets (sets d at xs) (at + length xs) ys ≡ sets d at (xs ++ ys)
+sets-then d at [] ys = rw add-zero
+sets-then d at (x ∷ xs) ys =
+    let e : at + suc (length xs) ≡ suc at + length xs = omega arith in
+    rw e (sets-then (set d at x) (suc at) xs ys)
+
+pub put-none : (d : List ℕ) (at : ℕ) → Put d at [] d at
+put-none d at = record { stored = refl; behind = omega arith }
+
+pub put-one : (d : List ℕ) (at b : ℕ) → Put d at (b ∷ []) (set d at b) (at + 1)
+put-one d at b = record { stored = refl; behind = refl }
+
+pub put-then : {d e f : List ℕ} {at next end : ℕ} {a b : List ℕ} → Put d at a e next → Put e next b f end → Put d at (a ++ b) f end
+put-then {d} {e} {f} {at} {next} {end} {a} {b} p q =
+    record {
+      stored = q .stored ∙ rw (p .stored, p .behind) (sets-then d at a b);
+      behind = rw (length-append a b) (omega arith);
+    }
+
+-- the same, in another grouping
+pub put-as : {d e : List ℕ} {at next : ℕ} {a b : List ℕ} → Put d at a e next → a ≡ b → Put d at b e next
+put-as p eq = record { stored = p .stored ∙ rw eq; behind = p .behind ∙ rw eq }
+
+-- what stands at the start after a store there
+pub put-start : {d e : List ℕ} {next : ℕ} {a : List ℕ} → Put d 0 a e next → length a ≤ length d → take next e ≡ a
+put-start {d} {e} {next} {a} p h =
+    let z : sets d 0 a ≡ a ++ drop (0 + length a) d = sets-eq a d 0 (omega arith) in
+    rw (p .stored, z) (take-at a (drop (0 + length a) d) next (omega arith))
