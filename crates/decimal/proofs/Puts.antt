@@ -36,3 +36,17 @@ pub put-start : {d e : List ℕ} {next : ℕ} {a : List ℕ} → Put d 0 a e nex
 put-start {d} {e} {next} {a} p h =
     let z : sets d 0 a ≡ a ++ drop (0 + length a) d = sets-eq a d 0 (omega arith) in
     rw (p .stored, z) (take-at a (drop (0 + length a) d) next (omega arith))
+
+-- a turn of a loop of stores: what is left to store gives what the whole does
+pub put-room : (at end : ℕ) (a b left : List ℕ) → left ≡ a ++ b → at + length left ≡ end → at + length a ≤ end
+put-room at end a b left so h = let z = length-append a b in let w : length left ≡ length (a ++ b) = ap length so in omega arith
+
+pub put-goes : {d e : List ℕ} {at next : ℕ} {a : List ℕ} (b left all : List ℕ) → left ≡ a ++ b → Put d at a e next → sets d at left ≡ all → sets e next b ≡ all
+put-goes {d} {e} {at} {next} {a} b left all so p h = rw (p .stored, p .behind, sets-then d at a b, ← so) h
+
+pub put-left : {d e : List ℕ} {at next : ℕ} {a : List ℕ} (b left : List ℕ) (end : ℕ) → left ≡ a ++ b → Put d at a e next → at + length left ≡ end → next + length b ≡ end
+put-left {d} {e} {at} {next} {a} b left end so p h =
+    let z = length-append a b in
+    let w : length left ≡ length (a ++ b) = ap length so in
+    let y = p .behind in
+    omega arith
