@@ -1,18 +1,12 @@
 -- Stores one behind the other. Assumes nothing.
 use mathlib.Core.Path.{_≡_, refl, sym, ap, _∙_}
 use mathlib.Core.List.{List, [], _∷_, _++_}
-use Prim.Native.Nat.{ℕ, zero, suc, _+_, _≤_, _<_}
+use Prim.Native.Nat.{ℕ, _+_, _≤_}
 use native.Mathlib.Omega.{arith}
-use native.Mathlib.Nat.{add-zero, add-suc}
-use lib.ListN.{length, take, drop, set, length-append, length-set}
-use lib.Seq.{sets, length-sets, sets-eq, take-at}
+use lib.ListN.{length, take, drop, set, length-append}
+use lib.Seq.{sets, sets-eq, take-at}
+use Rattle.lent.proofs.Stored.{sets-then}
 use Rattle.decimal.specs.Put.{Put}
-
-sets-then : (d : List ℕ) (at : ℕ) (xs ys : List ℕ) → sets (sets d at xs) (at + length xs) ys ≡ sets d at (xs ++ ys)
-sets-then d at [] ys = rw add-zero
-sets-then d at (x ∷ xs) ys =
-    let e : at + suc (length xs) ≡ suc at + length xs = omega arith in
-    rw e (sets-then (set d at x) (suc at) xs ys)
 
 pub put-none : (d : List ℕ) (at : ℕ) → Put d at [] d at
 put-none d at = record { stored = refl; behind = omega arith }
@@ -23,7 +17,7 @@ put-one d at b = record { stored = refl; behind = refl }
 pub put-then : {d e f : List ℕ} {at next end : ℕ} {a b : List ℕ} → Put d at a e next → Put e next b f end → Put d at (a ++ b) f end
 put-then {d} {e} {f} {at} {next} {end} {a} {b} p q =
     record {
-      stored = q .stored ∙ rw (p .stored, p .behind) (sets-then d at a b);
+      stored = q .stored ∙ rw (p .stored, p .behind) (sets-then d a b at);
       behind = rw (length-append a b) (omega arith);
     }
 
@@ -42,7 +36,7 @@ pub put-room : (at end : ℕ) (a b left : List ℕ) → left ≡ a ++ b → at +
 put-room at end a b left so h = let z = length-append a b in let w : length left ≡ length (a ++ b) = ap length so in omega arith
 
 pub put-goes : {d e : List ℕ} {at next : ℕ} {a : List ℕ} (b left all : List ℕ) → left ≡ a ++ b → Put d at a e next → sets d at left ≡ all → sets e next b ≡ all
-put-goes {d} {e} {at} {next} {a} b left all so p h = rw (p .stored, p .behind, sets-then d at a b, ← so) h
+put-goes {d} {e} {at} {next} {a} b left all so p h = rw (p .stored, p .behind, sets-then d a b at, ← so) h
 
 pub put-left : {d e : List ℕ} {at next : ℕ} {a : List ℕ} (b left : List ℕ) (end : ℕ) → left ≡ a ++ b → Put d at a e next → at + length left ≡ end → next + length b ≡ end
 put-left {d} {e} {at} {next} {a} b left end so p h =

@@ -26,3 +26,18 @@ fn put_text(slot: &[u8], text: &mut [u8])
     let body = lines::put_body(slot, size - header, text, head);
     lines::put_steps(slot, count, text, body);
 }
+
+// The plan's text at the start of what is lent for it.
+pub fn write_plan(slot: &[u8], text: &mut [u8]) -> Written
+    ensures { λ r. ⌜ (r ≡ writtenOf (now (slot .entry)) (now (text .entry))) × (now (text .exit) ≡ afterWriting (now (slot .entry)) (now (text .entry))) ⌝ }
+{
+    if !slot::check::is_ok(slot) {
+        return Written::Refused(Refusal::BadPlan);
+    }
+    let n = lengths::of_text(slot);
+    if text.len() < n {
+        return Written::Refused(Refusal::NoRoom);
+    }
+    put_text(slot, text);
+    Written::Length(n)
+}
