@@ -205,7 +205,7 @@ plan-back p ok =
     (omega (arith, k .a0)) (omega (arith, k .a1)) (omega (arith, k .a2)) (omega (arith, k .a3, k .a5)) (omega (arith, k .a4, k .a5)) (omega (arith, k .a5)) (omega (arith, k .a6))
     (textOf p) (p .body) (p .steps)
     (ap (λ (l : List ℕ). drop 7 (l ++ rest)) (head-starts (p .srcRtype) (p .rtype) (p .srcBase) (p .header) (p .base) (p .size) (length (p .steps)))
-      ∙ seven (cell (p .srcRtype) tab) (cell (p .rtype) tab) (cell (p .srcBase) tab) (cell (p .header) tab) (cell (p .base) tab) (cell (p .size) tab) (cell (length (p .steps)) newline) rest)
+    ∙ seven (cell (p .srcRtype) tab) (cell (p .rtype) tab) (cell (p .srcBase) tab) (cell (p .header) tab) (cell (p .base) tab) (cell (p .size) tab) (cell (length (p .steps)) newline) rest)
     (body-back (p .size - p .header) (p .body) (stepLines (p .steps)) n (k .bytes))
     (rw (body-past (p .size - p .header) (p .body) (stepLines (p .steps)) n) (steps-back (p .steps) (all-low (p .steps) (p .header) (p .size) (k .a5) (k .all))))
 

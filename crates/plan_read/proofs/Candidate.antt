@@ -134,7 +134,7 @@ fourteen l = refl
 
 pub candidate-is : (t : List ℕ) → hasRoom t ≡ true
     → sets (sets (sets (replicate slotSize 0) 0 (numbersAs 7 (numbersFrom t))) bodyFrom (unhex (sizeAs t - headerAs t) (bodyTextFrom t))) stepsFrom (packedSteps (stepsAs (countAs t) (stepsTextFrom t)))
-        ≡ slotOf (planAs t)
+    ≡ slotOf (planAs t)
 unfolding slotOf planAs
 candidate-is t room =
     let r = both (leb (sizeAs t) maxBytes) (leb (countAs t) maxSteps) room in

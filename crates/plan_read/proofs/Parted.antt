@@ -94,8 +94,8 @@ module _ (slot t : List ℕ) (h : Held slot) (long : length t ≡ length (textIn
       let one = alike-at (98 ∷ 111 ∷ 100 ∷ 121 ∷ 9 ∷ []) ((hex (bodyIn slot) ++ (newline ∷ [])) ++ stepsIn slot) t at in
       let two = alike-at (hex (bodyIn slot)) (newline ∷ stepsIn slot) t (at + 5) in
       one ∙ rw (append-assoc (hex (bodyIn slot)) (newline ∷ []) (stepsIn slot), two, l, drop-cons t ((at + 5) + 2 * n) 0 lt, su)
-        (shuffle (alike eqb (98 ∷ 111 ∷ 100 ∷ 121 ∷ 9 ∷ []) (window t at 5)) (alike eqb (hex (bodyIn slot)) (window t (at + 5) (2 * n)))
-          (eqb newline (byteAt t ((at + 5) + 2 * n))) (alike eqb (stepsIn slot) (drop (suc ((at + 5) + 2 * n)) t)))
+      (shuffle (alike eqb (98 ∷ 111 ∷ 100 ∷ 121 ∷ 9 ∷ []) (window t at 5)) (alike eqb (hex (bodyIn slot)) (window t (at + 5) (2 * n)))
+      (eqb newline (byteAt t ((at + 5) + 2 * n))) (alike eqb (stepsIn slot) (drop (suc ((at + 5) + 2 * n)) t)))
     where
       shuffle : (a b c d : Bool) → (a && (b && (c && d))) ≡ ((a && (b && c)) && d)
       shuffle true true c d = refl

@@ -78,7 +78,7 @@ module _ (more : List ℕ) where
       let p = packed-size s in
       let here : opAt (pre ++ ((packedOf s ++ packedSteps ss) ++ more)) at ≡ s .op = ap (λ (l : List ℕ). opAt l at) f ∙ op-behind pre (packedOf s ++ (packedSteps ss ++ more)) at e ∙ op-back (s .op) (packedSteps ss ++ more) (h .0) in
       let rest : stepsAt (pre ++ ((packedOf s ++ packedSteps ss) ++ more)) (at + 16) (length ss) ≡ ss =
-          ap (λ (l : List ℕ). stepsAt l (at + 16) (length ss)) (regroup pre (packedOf s) (packedSteps ss)) ∙ steps-back (pre ++ packedOf s) ss (at + 16) (omega arith) (h .1) in
+      ap (λ (l : List ℕ). stepsAt l (at + 16) (length ss)) (regroup pre (packedOf s) (packedSteps ss)) ∙ steps-back (pre ++ packedOf s) ss (at + 16) (omega arith) (h .1) in
       rw (here, rest)
 
   flags-all : (pre : List ℕ) (ss : List Step) (at : ℕ) → at ≡ length pre → allFlags (pre ++ (packedSteps ss ++ more)) at (length ss) ≡ true
@@ -90,7 +90,7 @@ module _ (more : List ℕ) where
       let p = packed-size s in
       let here : flagsOk (pre ++ ((packedOf s ++ packedSteps ss) ++ more)) at ≡ true = ap (λ (l : List ℕ). flagsOk l at) f ∙ flags-behind pre (packedOf s ++ (packedSteps ss ++ more)) at e ∙ flags-back (s .op) (packedSteps ss ++ more) in
       let rest : allFlags (pre ++ ((packedOf s ++ packedSteps ss) ++ more)) (at + 16) (length ss) ≡ true =
-          ap (λ (l : List ℕ). allFlags l (at + 16) (length ss)) (regroup pre (packedOf s) (packedSteps ss)) ∙ flags-all (pre ++ packedOf s) ss (at + 16) (omega arith) in
+      ap (λ (l : List ℕ). allFlags l (at + 16) (length ss)) (regroup pre (packedOf s) (packedSteps ss)) ∙ flags-all (pre ++ packedOf s) ss (at + 16) (omega arith) in
       rw (here, rest)
 
 filled-length : (n : ℕ) (l : List ℕ) → length l ≤ n → length (filled n l) ≡ n
@@ -139,7 +139,7 @@ module _ (p : Plan) (ok : planOk p ≡ true) where
   unfolding slotOf
   body-in =
       let d : drop bodyFrom (headOf p ++ (stepsRoom ++ bodyRoom)) ≡ bodyRoom =
-          sym (drop-drop 2048 16 (headOf p ++ (stepsRoom ++ bodyRoom))) ∙ rw (drop-at (headOf p) (stepsRoom ++ bodyRoom) 16 refl) (drop-at stepsRoom bodyRoom 2048 steps-long) in
+      sym (drop-drop 2048 16 (headOf p ++ (stepsRoom ++ bodyRoom))) ∙ rw (drop-at (headOf p) (stepsRoom ++ bodyRoom) 16 refl) (drop-at stepsRoom bodyRoom 2048 steps-long) in
       rw d (take-at (p .body) (replicate (maxBytes - length (p .body)) 0) (p .size - p .header) (omega (arith, k .whole)))
 
   n0 : numberAt (slotOf p) 0 2 ≡ p .srcRtype

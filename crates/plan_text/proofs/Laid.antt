@@ -45,7 +45,7 @@ unfolding tabbed
 head-in slot =
     head-starts (numberAt slot 0 2) (numberAt slot 2 2) (numberAt slot 4 2) (numberAt slot 6 2) (numberAt slot 8 2) (numberAt slot 10 2) (numberAt slot 12 2)
     ∙ ap (λ (l : List ℕ). 112 ∷ 108 ∷ 97 ∷ 110 ∷ 9 ∷ 49 ∷ 9 ∷ l)
-      (six (cell (numberAt slot 0 2) tab) (cell (numberAt slot 2 2) tab) (cell (numberAt slot 4 2) tab) (cell (numberAt slot 6 2) tab) (cell (numberAt slot 8 2) tab) (cell (numberAt slot 10 2) tab) (cell (numberAt slot 12 2) newline))
+    (six (cell (numberAt slot 0 2) tab) (cell (numberAt slot 2 2) tab) (cell (numberAt slot 4 2) tab) (cell (numberAt slot 6 2) tab) (cell (numberAt slot 8 2) tab) (cell (numberAt slot 10 2) tab) (cell (numberAt slot 12 2) newline))
 
 pub head-length : (slot : List ℕ) → length (headIn slot) ≡ 7 + length (tabbed slot 0 6) + wide (numberAt slot 12 2)
 head-length slot =
