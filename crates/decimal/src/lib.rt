@@ -62,7 +62,7 @@ pub fn put_cell(n: u16, end: u8, out: &mut [u8], at: usize) -> usize
 fn digits_at(n: u16, unit: u16) -> usize
     ensures { λ r. ⌜ (r ≡ length (place unit n)) × (r ≤ 1) ⌝ }
 {
-    if unit <= n { 1 } else { 0 }
+    if n < unit { 0 } else { 1 }
 }
 
 // How many characters a cell takes.
