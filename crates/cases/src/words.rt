@@ -61,6 +61,10 @@ fn asked(line: &[u8], cat: &[u8], layout: &[u8], table: &mut Table, out: &mut [u
     if of_verdict != 0 {
         return of_verdict;
     }
+    let of_text = ask_text::asked(line, table, out);
+    if of_text != 0 {
+        return of_text;
+    }
     answer::malformed(out)
 }
 

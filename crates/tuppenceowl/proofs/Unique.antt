@@ -6,6 +6,12 @@ use Rattle.admission.specs.Admission.{admitCatalogue, admitOf, statusOf}
 use Rattle.admission.specs.declared.Admitted.{Admitted}
 use Rattle.tuppenceowl.specs.Answers.{sizedOf, windowedOf, foundOf, summedOf, bootedOf, summedStatus, hashOr, visitsOr}
 use Rattle.tuppenceowl.specs.Comparing.{judgedOf, judgedRtype, judgedStatus, foundById, foundByName}
+use Rattle.tuppenceowl.specs.Texting.{checkedOf, writtenStatus, lengthOr, readStatus, ReadsAs}
+use Rattle.plan_text.specs.Writing.{writtenOf, afterWriting}
+use Rattle.plan_text.specs.declared.writer.Written.{Written}
+use Rattle.plan_read.specs.Reading.{Reads}
+use Rattle.plan_read.specs.declared.reader.ReadPlan.{ReadPlan}
+use Rattle.plan_read.proofs.Theorems.{reads-one}
 use Rattle.tuppenceowl.specs.Hosted.{Told, Hosted, hosted}
 use Rattle.tuppenceowl.specs.declared.comparing.Judged.{Judged}
 use Rattle.crc64.specs.Avro.{fingerprint}
@@ -149,3 +155,32 @@ module _ (plans unplanned : List ℕ) (rtype srcHeader dstHeader : ℕ) (src : L
       → s ≡ upgradedStatus answered → a ≡ rtypeOr answered became → n ≡ sizeOr answered size → e ≡ kept
       → (r ≡ s) × (b ≡ a) × (m ≡ n) × (d ≡ e)
   owl-upgrade-unique = owl-upgraded-unique answered kept
+
+-- ---- plan text
+
+pub check-plan-unique : (plan : List ℕ) (r s : Admitted) → r ≡ checkedOf plan → s ≡ checkedOf plan → r ≡ s
+check-plan-unique plan r s = equal
+
+pub owl-check-plan-unique : (plan : List ℕ) (r s : ℕ) → r ≡ statusOf (checkedOf plan) → s ≡ statusOf (checkedOf plan) → r ≡ s
+owl-check-plan-unique plan r s = equal
+
+pub write-plan-unique : (plan text : List ℕ) (r s : Written) (a b : List ℕ)
+    → r ≡ writtenOf plan text → a ≡ afterWriting plan text → s ≡ writtenOf plan text → b ≡ afterWriting plan text → (r ≡ s) × (a ≡ b)
+write-plan-unique plan text r s a b er ea es eb = (equal er es, equal ea eb)
+
+pub owl-write-plan-unique : (plan text : List ℕ) (length r n s m : ℕ) (a b : List ℕ)
+    → r ≡ writtenStatus (writtenOf plan text) → a ≡ afterWriting plan text → n ≡ lengthOr (writtenOf plan text) length
+    → s ≡ writtenStatus (writtenOf plan text) → b ≡ afterWriting plan text → m ≡ lengthOr (writtenOf plan text) length
+    → (r ≡ s) × (a ≡ b) × (n ≡ m)
+owl-write-plan-unique plan text length r n s m a b er ea en es eb em = (equal er es, equal ea eb, equal en em)
+
+pub read-plan-unique : (text plan : List ℕ) (r s : ReadPlan) (a b : List ℕ) → Reads text plan r a → Reads text plan s b → (r ≡ s) × (a ≡ b)
+read-plan-unique text plan r s a b p q =
+    let x = reads-one text plan r a p in
+    let y = reads-one text plan s b q in
+    (equal (x .0) (y .0), equal (x .1) (y .1))
+
+pub owl-read-plan-unique : (text plan : List ℕ) (r s : ℕ) (a b : List ℕ) → ReadsAs text plan r a → ReadsAs text plan s b → (r ≡ s) × (a ≡ b)
+owl-read-plan-unique text plan r s a b p q =
+    let z = read-plan-unique text plan (p .answer) (q .answer) a b (p .kept) (q .kept) in
+    (p .told ∙ ap readStatus (z .0) ∙ sym (q .told), z .1)

@@ -2,3 +2,4 @@ pub mod Answers
 pub mod Comparing
 pub mod Hosted
 pub mod Upgrading
+pub mod Texting

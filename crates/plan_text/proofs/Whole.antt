@@ -1,0 +1,92 @@
+-- The whole text of the plan that a slot holds, part by part. Assumes nothing.
+use mathlib.Core.Path.{_≡_, refl, sym, ap, _∙_}
+use mathlib.Core.Bool.{Bool, true, false, cond, _&&_}
+use mathlib.Core.List.{List, [], _∷_, _++_}
+use Prim.Native.Nat.{ℕ, zero, suc, _+_, _-_, _*_, _≤_, _<_}
+use native.Mathlib.Omega.{arith}
+use lib.ListN.{length, length-append}
+use lib.Seq.{sets}
+use lib.Dec.{eqb, leb}
+use borrow.Author.Tests.{eqb-true, leb-true, le-leb, lt-leb}
+use Rattle.limits.specs.Limits.{maxBytes, maxSteps}
+use Rattle.limits.specs.declared.refusal.Refusal.the-variants.{BadPlan, NoRoom}
+use Rattle.lent.specs.Bytes.{window}
+use Rattle.lent.proofs.Scan.{both}
+use Rattle.lent.specs.Scan.{gather}
+use Rattle.step.specs.Packed.{stepAt, stepsAt}
+use Rattle.step.specs.Step.{stepsOk}
+use Rattle.slot.specs.Plan.{Plan, rtypesOk, sizesOk, bodyOk, planOk}
+use Rattle.slot.specs.Slot.{slotSize, stepsFrom, bodyFrom, headerIn, sizeIn, countIn, planIn, allFlags, slotOk}
+use Rattle.slot.proofs.Checking.{sizes}
+use Rattle.decimal.proofs.Nibbles.{window-length}
+use Rattle.plan_text.specs.Text.{headLine, bodyLine, stepLines, textOf}
+use Rattle.plan_text.specs.Held.{Held, headIn}
+use Rattle.plan_text.specs.Writing.{textIn, writtenOf, afterWriting}
+use Rattle.plan_text.specs.declared.writer.Written.the-variants.{Length, Refused}
+use Rattle.plan_text.proofs.Laid.{body-length}
+
+gather-length : {A : Type 0} (read : ℕ → A) (step at n : ℕ) → length (gather read step at n) ≡ n
+unfolding gather
+gather-length read step at zero = refl
+gather-length read step at (suc n) = ap suc (gather-length read step (at + step) n)
+
+abbrev pub bodyIn : List ℕ → List ℕ
+bodyIn slot = window slot bodyFrom (sizeIn slot - headerIn slot)
+
+abbrev pub stepsIn : List ℕ → List ℕ
+stepsIn slot = stepLines (stepsAt slot stepsFrom (countIn slot))
+
+pub text-parts : (slot : List ℕ) → textIn slot ≡ headIn slot ++ (bodyLine (bodyIn slot) ++ stepsIn slot)
+unfolding textOf
+text-parts slot = rw (gather-length (stepAt slot) 16 stepsFrom (countIn slot))
+
+pub text-length : (slot : List ℕ) → Held slot → length (textIn slot) ≡ length (headIn slot) + (length (bodyLine (bodyIn slot)) + length (stepsIn slot))
+text-length slot h =
+    ap length (text-parts slot)
+    ∙ length-append (headIn slot) (bodyLine (bodyIn slot) ++ stepsIn slot)
+    ∙ rw (length-append (bodyLine (bodyIn slot)) (stepsIn slot))
+
+pub body-wide : (slot : List ℕ) → Held slot → length (bodyLine (bodyIn slot)) ≡ 6 + 2 * (sizeIn slot - headerIn slot)
+body-wide slot h =
+    let l = window-length slot bodyFrom (sizeIn slot - headerIn slot) (omega (arith, h .long, h .most)) in
+    let b = body-length (bodyIn slot) in
+    omega arith
+
+-- what a slot that keeps the rules lends to the parts
+pub keeps-plan : (slot : List ℕ) → slotOk slot ≡ true → (length slot ≡ slotSize) × (planOk (planIn slot) ≡ true)
+unfolding slotOk
+keeps-plan slot ok =
+    let a = both (eqb (length slot) slotSize) (allFlags slot stepsFrom (countIn slot) && planOk (planIn slot)) ok in
+    (eqb-true (length slot) slotSize (a .0), both (allFlags slot stepsFrom (countIn slot)) (planOk (planIn slot)) (a .1) .1)
+
+pub held : (slot : List ℕ) → slotOk slot ≡ true → Held slot
+unfolding planOk
+held slot ok =
+    let k = keeps-plan slot ok in
+    let p = planIn slot in
+    let z = both (rtypesOk p && sizesOk p) (bodyOk p && (leb (length (p .steps)) maxSteps && stepsOk (p .header) (p .size) (p .steps))) (k .1) in
+    let s = sizes p (both (rtypesOk p) (sizesOk p) (z .0) .1) in
+    let b = both (bodyOk p) (leb (length (p .steps)) maxSteps && stepsOk (p .header) (p .size) (p .steps)) (z .1) in
+    let f = leb-true (length (p .steps)) maxSteps (both (leb (length (p .steps)) maxSteps) (stepsOk (p .header) (p .size) (p .steps)) (b .1) .0) in
+    let l = gather-length (stepAt slot) 16 stepsFrom (countIn slot) in
+    record { long = k .0; few = omega arith; most = s .0; headed = s .1 }
+
+-- ---- the writer's answers
+
+module _ (slot text : List ℕ) where
+  pub says-bad : slotOk slot ≡ false → (Refused BadPlan ≡ writtenOf slot text) × (text ≡ afterWriting slot text)
+  unfolding writtenOf afterWriting
+  says-bad h = (rw h, rw h)
+
+  module _ (n : ℕ) (ok : slotOk slot ≡ true) (e : n ≡ length (textIn slot)) where
+    pub says-short : length text < n → (Refused NoRoom ≡ writtenOf slot text) × (text ≡ afterWriting slot text)
+    unfolding writtenOf afterWriting
+    says-short h =
+        let z = lt-leb (length (textIn slot)) (length text) (omega arith) in
+        (rw (ok, z), rw (ok, z))
+
+    pub says-text : (new : List ℕ) → n ≤ length text → new ≡ sets text 0 (textIn slot) → (Length n ≡ writtenOf slot text) × (new ≡ afterWriting slot text)
+    unfolding writtenOf afterWriting
+    says-text new h w =
+        let z = le-leb (length (textIn slot)) (length text) (omega arith) in
+        (rw (ok, z, e), w ∙ rw (ok, z))
