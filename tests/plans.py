@@ -282,10 +282,18 @@ class Lines:
         return told
 
 
-def ask_plans(rng, out):
+def small_pair(rng, most):
+    """blocks of at most so many bytes"""
+    while True:
+        source, target = pair(rng)
+        if max(len(layout([source])), len(layout([target]))) <= most:
+            return source, target
+
+
+def ask_plans(rng, out, most):
     """a pair planned as it is and with no base, and with one thing broken"""
-    source, target = pair(rng)
-    more = [pair(rng)[1]] if rng.random() < 0.1 else []
+    source, target = small_pair(rng, most)
+    more = [small_pair(rng, most)[1]] if rng.random() < 0.1 else []
     targets, to = (more + [target], len(more)) if rng.random() < 0.5 else ([target] + more, 0)
     registry = any_registry(rng, target["fields"])
     body, marks = body_of(registry, target), marks_of(rng, registry, target)
@@ -364,8 +372,8 @@ def some_records(rng):
     return [one() for _ in range(rng.choice((0, 1, 2, 3, 5, 16)))]
 
 
-def ask_selects(rng, out):
-    sources, targets = some_records(rng), some_records(rng)
+def ask_selects(rng, out, most):
+    sources, targets = ([r for r, _ in zip(some_records(rng), range(most // 100))] for _ in range(2))
     target = layout(targets)
     out.say("layout\t" + layout(sources).hex())
     for k in range(min(4, len(sources) + 1)):
@@ -374,8 +382,8 @@ def ask_selects(rng, out):
         out.say(f"select\t0\t{rng.choice(('-', 1))}\t{damaged(rng, targets).hex()}", False)
 
 
-def planning(rng, n):
+def planning(rng, n, most=generate.MOST_BLOCK):
     out = Lines()
     for _ in range(n):
-        (ask_selects if rng.random() < 0.2 else ask_plans)(rng, out)
+        (ask_selects if rng.random() < 0.2 else ask_plans)(rng, out, most)
     return out
