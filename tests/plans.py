@@ -330,10 +330,10 @@ def ask_plans(rng, out, most):
 # ---- records
 
 def special(rng, size):
-    """the largest, the least, those beside them, all bits, none"""
-    top = rng.choice((0x7F, 0x80, 0xFF, 0x00))
-    low = rng.choice((0xFF, 0x00, 0xFE, 0x01))
-    return bytes([low] + [rng.choice((0xFF, 0x00))] * (size - 2) + [top])[-size:]
+    """around the largest and the least of any width"""
+    bits = 8 * rng.choice((1, 2, 4, 8, size, size))
+    edge = rng.choice((0, 2 ** (bits - 1), 2**bits)) * rng.choice((1, -1))
+    return ((edge + rng.choice((-2, -1, -1, -1, 0, 0, 1))) % 2 ** (8 * size)).to_bytes(size, "little")
 
 
 def any_source(rng, steps, size):

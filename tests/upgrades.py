@@ -111,9 +111,10 @@ def widths(*choices):
 
 
 def exchanged(rng, plan):
-    i = rng.randrange(len(plan["rows"]))
-    j = rng.randrange(len(plan["rows"]))
-    plan["rows"][i], plan["rows"][j] = plan["rows"][j], plan["rows"][i]
+    """of one step two are made"""
+    plan["rows"] = plan["rows"] if len(plan["rows"]) > 1 else plan["rows"] * 2
+    i = rng.randrange(1, len(plan["rows"]))
+    plan["rows"][i - 1 : i + 1] = plan["rows"][i], plan["rows"][i - 1]
 
 
 def one_more(plan):
@@ -147,12 +148,11 @@ BREAKS = {
 }
 
 
-def broken(rng, header=HEADER, style=None):
-    """its body and its steps as before but for what is broken"""
+def broken(rng, header=HEADER, style=None, most=127):
+    """of at most so many steps; all else is as it was"""
     while True:
         plan = any_plan(rng, header)
-        if plan["rows"]:
-            plan["rows"] = plan["rows"][:127]
+        if 0 < len(plan["rows"]) <= most:
             BREAKS[style or rng.choice(list(BREAKS))](rng, plan)
             return plan
 
