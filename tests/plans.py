@@ -331,7 +331,7 @@ def ask_plans(rng, out, most):
 
 def special(rng, size):
     """around the largest and the least of any width"""
-    bits = 8 * rng.choice((1, 2, 4, 8, size, size))
+    bits = 8 * rng.choice((1, 2, 4, 8, size or 1, size or 1))
     edge = rng.choice((0, 2 ** (bits - 1), 2**bits)) * rng.choice((1, -1))
     return ((edge + rng.choice((-2, -1, -1, -1, 0, 0, 1))) % 2 ** (8 * size)).to_bytes(size, "little")
 
