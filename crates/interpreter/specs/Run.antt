@@ -1,10 +1,11 @@
 -- What the steps of a plan make of a target. Offsets count from the record's start, in source and target.
 use Prim.Native.Nat.{ℕ}
-use mathlib.Core.Bool.{Bool, cond}
+use mathlib.Core.Bool.{Bool, cond, _&&_}
 use mathlib.Core.List.{List, [], _∷_}
+use lib.Dec.{leb}
 use lib.Seq.{sets}
 use Rattle.lent.specs.Bytes.{numberAt, bytesOf, window, hasWindow}
-use Rattle.step.specs.Step.{sourceOf, takes, targetOf}
+use Rattle.step.specs.Step.{sourceOf, takes, targetOf, endOf, stepOk}
 use Rattle.step.specs.declared.Op.{Op}
 use Rattle.step.specs.declared.Op.the-variants.{Copy, Int}
 use Rattle.step.specs.declared.Step.{Step}
@@ -19,6 +20,10 @@ carried src (Int source target from to signed marked) = bytesOf to (mapInt from 
 -- the source window lies inside the record
 abbrev pub reaches : List ℕ → Step → Bool
 reaches src s = hasWindow src (sourceOf s) (takes s)
+
+-- a step that keeps its own rules and ends within n bytes of target
+abbrev pub fits : ℕ → Step → Bool
+fits n s = stepOk s && leb (endOf s) n
 
 -- a step whose window passes the record's end is skipped whole
 unfoldable pub runStep : List ℕ → Step → List ℕ → List ℕ

@@ -1,1 +1,103 @@
-// The interpreter.
+// UpgradePlan::apply of dbn's upgrade.rs, on a plan in a slot: the default body, then the steps.
+ghost use mathlib.Core.Path.{_≡_};
+ghost use mathlib.Core.Bool.{true};
+ghost use Prim.Native.Nat.{_+_, _≤_};
+ghost use lib.ListN.{length};
+ghost use lib.Seq.{sets};
+ghost use Rattle.catalogue.specs.Catalogue.{isWidth};
+ghost use Rattle.step.specs.declared.Op.the-variants.{Int};
+ghost use Rattle.slot.specs.Slot.{sizeIn, planIn, slotOk};
+ghost use Rattle.interpreter.specs.Run.{carried, fits, runStep, run, upgraded};
+use slot::check::number_at;
+use step::Op;
+use step::Step;
+
+// The integer of n bytes at `source`, mapped and stored in m bytes at `target`.
+fn carry_int(
+    source: usize,
+    target: usize,
+    n: usize,
+    m: usize,
+    signed: bool,
+    marked: bool,
+    src: &[u8],
+    dst: &mut [u8],
+)
+    requires { ⌜ ((isWidth n ≡ true) × (isWidth m ≡ true)) × ((source + n ≤ length (now src)) × (target + m ≤ length (now dst))) ⌝ }
+    ensures { λ r. ⌜ now (dst .exit) ≡ sets (now (dst .entry)) target (carried (now (src .entry)) (Int source target n m signed marked)) ⌝ }
+{
+    let v = mapping::width::number_in(src, source, n);
+    let w = mapping::map_int(n as u64, m as u64, signed, marked, v);
+    mapping::width::store_number(dst, target, m, w)
+}
+
+// A step whose window passes the record's end is skipped whole.
+fn run_step(step: Step, src: &[u8], dst: &mut [u8])
+    requires { ⌜ fits (length (now dst)) step ≡ true ⌝ }
+    ensures { λ r. ⌜ now (dst .exit) ≡ runStep (now (src .entry)) step (now (dst .entry)) ⌝ }
+{
+    let op = step.op;
+    match op {
+        Op::Copy {
+            src_offset,
+            dst_offset,
+            size,
+        } => {
+            let source = lent::wide16(src_offset);
+            let n = lent::wide16(size);
+            if source + n <= src.len() {
+                lent::store::copy(src, source, dst, lent::wide16(dst_offset), n);
+            }
+        }
+        Op::Int {
+            src_offset,
+            dst_offset,
+            src_size,
+            dst_size,
+            signed,
+            has_undef_max,
+        } => {
+            let source = lent::wide16(src_offset);
+            let target = lent::wide16(dst_offset);
+            let n = lent::wide16(src_size);
+            let m = lent::wide16(dst_size);
+            if source + n <= src.len() {
+                carry_int(source, target, n, m, signed, has_undef_max, src, dst);
+            }
+        }
+    }
+}
+
+// The default body of a slot, behind the header.
+pub fn lay_body(slot: &[u8], dst: &mut [u8])
+    requires { ⌜ (slotOk (now slot) ≡ true) × (sizeIn (now slot) ≤ length (now dst)) ⌝ }
+    ensures { λ r. ⌜ now (dst .exit) ≡ sets (now (dst .entry)) (planIn (now (slot .entry)) .header) (planIn (now (slot .entry)) .body) ⌝ }
+{
+    let header = number_at(slot, 6);
+    let n = number_at(slot, 10) - header;
+    lent::store::copy(slot, slot::BODY_FROM, dst, header, n);
+}
+
+// The steps of a slot, one after the other.
+pub fn run_steps(slot: &[u8], src: &[u8], dst: &mut [u8])
+    requires { ⌜ (slotOk (now slot) ≡ true) × (sizeIn (now slot) ≤ length (now dst)) ⌝ }
+    ensures { λ r. ⌜ now (dst .exit) ≡ run (now (src .entry)) (planIn (now (slot .entry)) .steps) (now (dst .entry)) ⌝ }
+{
+    let mut at = slot::STEPS_FROM;
+    let mut left = number_at(slot, 12);
+    while 0 < left {
+        let step = step::packed::step_in(slot, at);
+        run_step(step, src, dst);
+        at += step::packed::SIZE;
+        left -= 1;
+    }
+}
+
+// The default body, then the steps. Bytes of the header, and those past the record size, stay.
+pub fn apply(slot: &[u8], src: &[u8], dst: &mut [u8])
+    requires { ⌜ (slotOk (now slot) ≡ true) × (sizeIn (now slot) ≤ length (now dst)) ⌝ }
+    ensures { λ r. ⌜ now (dst .exit) ≡ upgraded (planIn (now (slot .entry))) (now (src .entry)) (now (dst .entry)) ⌝ }
+{
+    lay_body(slot, dst);
+    run_steps(slot, src, dst)
+}

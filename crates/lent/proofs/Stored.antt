@@ -1,10 +1,10 @@
 -- Stores of runs of bytes, and what is read of them. Assumes nothing.
 use mathlib.Core.Path.{_≡_, refl, _∙_}
-use mathlib.Core.List.{List, [], _∷_}
+use mathlib.Core.List.{List, [], _∷_, _++_, append-nil}
 use Prim.Native.Nat.{ℕ, zero, suc, _+_, _-_, _*_, _≤_, _<_}
 use native.Mathlib.Omega.{arith}
-use lib.ListN.{length, getD, set, take, drop, length-set}
-use lib.Seq.{sets, drop-cons, take-all, getD-set-same, getD-set-other}
+use lib.ListN.{length, getD, set, take, drop, replicate, length-set, drop-of-length-le}
+use lib.Seq.{sets, sets-eq, drop-cons, take-all, getD-set-same, getD-set-other}
 use Rattle.lent.specs.Bytes.{byteAt, window}
 
 pub window-cons : (s : List ℕ) (a n : ℕ) → a < length s → window s a (suc n) ≡ byteAt s a ∷ window s (suc a) n
@@ -38,3 +38,22 @@ get-in (v ∷ vs) l i zero h b =
 get-in (v ∷ vs) l i (suc j) h b =
     let e : i + suc j ≡ suc i + j = omega arith in
     rw e (get-in vs (set l i v) (suc i) j (omega arith) (simp length-set (omega arith)))
+
+-- a run stored behind another is one run
+pub sets-then : (d xs ys : List ℕ) (at : ℕ) → sets (sets d at xs) (at + length xs) ys ≡ sets d at (xs ++ ys)
+sets-then d [] ys at = let e : at + 0 ≡ at = omega arith in rw e
+sets-then d (x ∷ xs) ys at = let e : at + suc (length xs) ≡ suc at + length xs = omega arith in rw e (sets-then (set d at x) xs ys (suc at))
+
+-- a run as long as what it is stored in
+pub sets-all : (d xs : List ℕ) → length d ≡ length xs → sets d 0 xs ≡ xs
+sets-all d xs e =
+    let h : 0 + length xs ≤ length d = omega arith in
+    let l : length d ≤ 0 + length xs = omega arith in
+    sets-eq xs d 0 h ∙ rw (drop-of-length-le d l, append-nil xs)
+
+-- a turn of a run of one value
+pub filled : (d : List ℕ) (at n i v : ℕ) → i < n → sets (set d (at + i) v) (at + (i + 1)) (replicate (n - (i + 1)) v) ≡ sets d (at + i) (replicate (n - i) v)
+filled d at n i v h =
+    let k : n - i ≡ suc (n - (i + 1)) = omega arith in
+    let e : at + (i + 1) ≡ suc (at + i) = omega arith in
+    rw (k, e)

@@ -1,9 +1,9 @@
 // Stores of bytes: a run copied from one place to another, and the bytes of a number.
 ghost use mathlib.Core.Path.{_≡_};
 ghost use Prim.Native.Nat.{_+_, _/_, _%_, _≤_};
-ghost use lib.ListN.{length};
+ghost use lib.ListN.{length, replicate};
 ghost use lib.Seq.{sets};
-ghost use Rattle.lent.specs.Bytes.{window};
+ghost use Rattle.lent.specs.Bytes.{bytesOf, window};
 
 pub fn low(x: u16) -> u8
     ensures { λ r. ⌜ r ≡ x % 256 ⌝ }
@@ -27,4 +27,25 @@ pub fn copy(s: &[u8], from: usize, d: &mut [u8], to: usize, n: usize)
         d[to + i] = s[from + i];
         i += 1;
     }
+}
+
+// n zeros from `at` on.
+pub fn zeros(d: &mut [u8], at: usize, n: usize)
+    requires { ⌜ at + n ≤ length (now d) ⌝ }
+    ensures { λ r. ⌜ now (d .exit) ≡ sets (now (d .entry)) at (replicate n 0) ⌝ }
+{
+    let mut i = 0;
+    while i < n {
+        d[at + i] = 0;
+        i += 1;
+    }
+}
+
+// The two bytes of a number, the low one first.
+pub fn number16(d: &mut [u8], at: usize, x: u16)
+    requires { ⌜ at + 2 ≤ length (now d) ⌝ }
+    ensures { λ r. ⌜ now (d .exit) ≡ sets (now (d .entry)) at (bytesOf 2 x) ⌝ }
+{
+    d[at] = low(x);
+    d[at + 1] = high(x);
 }

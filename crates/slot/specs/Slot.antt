@@ -8,6 +8,7 @@ use lib.ListN.{length, take, replicate}
 use Rattle.limits.specs.Limits.{maxBytes, maxSteps}
 use Rattle.lent.specs.Bytes.{numberAt, bytesOf, window}
 use Rattle.lent.specs.Scan.{every, places}
+use Rattle.step.specs.Step.{stepsOk}
 use Rattle.step.specs.Packed.{packedOf, flagsOk, stepsAt}
 use Rattle.step.specs.declared.Step.{Step}
 use Rattle.slot.specs.declared.UpgradePlan.{UpgradePlan}
@@ -47,23 +48,29 @@ planIn slot =
       steps = stepsAt slot stepsFrom (countIn slot);
     }
 
+-- kind, sign and mark of each of n packed steps are 0 or 1
+abbrev pub allFlags : List ℕ → ℕ → ℕ → Bool
+allFlags slot at n = every (flagsOk slot) (places 16 at n)
+
 -- a slot that holds a plan which keeps every rule; bytes past its steps and its body are not looked at
 unfoldable pub slotOk : List ℕ → Bool
-slotOk slot =
-    eqb (length slot) slotSize
-    && (every (flagsOk slot) (places 16 stepsFrom (countIn slot)) && planOk (planIn slot))
+slotOk slot = eqb (length slot) slotSize && (allFlags slot stepsFrom (countIn slot) && planOk (planIn slot))
+
+-- what is asked of the n steps from `at` on, in one pass over them
+abbrev pub keeps : List ℕ → ℕ → ℕ → ℕ → ℕ → Bool
+keeps slot at n low high = allFlags slot at n && stepsOk low high (stepsAt slot at n)
 
 -- ---- the plan that an UpgradePlan and the body lent beside it are
 
 abbrev pub planOf : UpgradePlan → List ℕ → Plan
 planOf p body =
     record {
-      srcRtype = p .«src_rtype»;
-      rtype = p .rtype;
-      srcBase = p .«src_base»;
-      header = p .header;
-      base = p .base;
-      size = p .size;
+      srcRtype = p .numbers .«src_rtype»;
+      rtype = p .numbers .rtype;
+      srcBase = p .numbers .«src_base»;
+      header = p .numbers .header;
+      base = p .numbers .base;
+      size = p .numbers .size;
       body = body;
       steps = take (p .steps .count) (p .steps .steps);
     }
@@ -78,10 +85,13 @@ abbrev pub packedSteps : List Step → List ℕ
 packedSteps [] = []
 packedSteps (s ∷ ss) = packedOf s ++ packedSteps ss
 
+abbrev pub headAs : ℕ → ℕ → ℕ → ℕ → ℕ → ℕ → ℕ → List ℕ
+headAs srcRtype rtype srcBase header base size count =
+    bytesOf 2 srcRtype ++ (bytesOf 2 rtype ++ (bytesOf 2 srcBase ++ (bytesOf 2 header
+    ++ (bytesOf 2 base ++ (bytesOf 2 size ++ (bytesOf 2 count ++ bytesOf 2 0))))))
+
 abbrev pub headOf : Plan → List ℕ
-headOf p =
-    bytesOf 2 (p .srcRtype) ++ (bytesOf 2 (p .rtype) ++ (bytesOf 2 (p .srcBase) ++ (bytesOf 2 (p .header)
-    ++ (bytesOf 2 (p .base) ++ (bytesOf 2 (p .size) ++ (bytesOf 2 (length (p .steps)) ++ bytesOf 2 0))))))
+headOf p = headAs (p .srcRtype) (p .rtype) (p .srcBase) (p .header) (p .base) (p .size) (length (p .steps))
 
 unfoldable pub slotOf : Plan → List ℕ
 slotOf p = headOf p ++ (filled (16 * maxSteps) (packedSteps (p .steps)) ++ filled maxBytes (p .body))

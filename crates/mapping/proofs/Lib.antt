@@ -1,0 +1,3 @@
+pub mod Halves
+pub mod Cases
+pub mod Widths
