@@ -228,7 +228,9 @@ def ask_upgrade(rng, out, used, by_rust, headers=(SOURCE_HEADER, HEADER)):
     size = number(out.model.part(SLOT * found, SLOT), 10, 2) if rtype in held else max(0, headers[1] + stated - headers[0])
     unplanned = b"".join(struct.pack("<H", rng.choice((*RTYPES, 7, 300))) for _ in range(rng.choice((0, 0, 1, 2, 5))))
     target = room_for(rng, min(size, 4200)).hex()
-    out.say(f"upgrade\t{SLOT * used}\t{unplanned.hex()}\t{rtype}\t{headers[0]}\t{headers[1]}\t{content.hex()}\t{stated}\t{target}", by_rust)
+    # a rest behind the last whole slot is no plan
+    n = SLOT * used + (0 if by_rust else rng.choice((0, 0, 0, -1, 1, 6159)))
+    out.say(f"upgrade\t{n}\t{unplanned.hex()}\t{rtype}\t{headers[0]}\t{headers[1]}\t{content.hex()}\t{stated}\t{target}", by_rust)
 
 
 def ask_kept(rng, out, most):

@@ -52,11 +52,11 @@ class Asked:
         whole = f"{answer} {target.hex()}" if answer[0] == "r" else answer
         self.ask(f"apply\t{at}\t{n}\t{content.hex()}\t{len(content) if stated is None else stated}\t{target.hex()}", whole)
 
-    def upgrade(self, answer, content, target, rtype=1, stated=None, headers=(16, 24), plans=1, unplanned=()):
+    def upgrade(self, answer, content, target, rtype=1, stated=None, headers=(16, 24), plans=1, unplanned=(), rest=0):
         ids = b"".join(struct.pack("<H", i) for i in unplanned).hex()
         whole = f"{answer} {target.hex()}" if answer[0] == "r" else answer
         stated = len(content) if stated is None else stated
-        self.ask(f"upgrade\t{SLOT * plans}\t{ids}\t{rtype}\t{headers[0]}\t{headers[1]}\t{content.hex()}\t{stated}\t{target.hex()}", whole)
+        self.ask(f"upgrade\t{SLOT * plans + rest}\t{ids}\t{rtype}\t{headers[0]}\t{headers[1]}\t{content.hex()}\t{stated}\t{target.hex()}", whole)
 
 
 # ---- selection
@@ -322,6 +322,10 @@ def dispatches(a):
     a.upgrade(f"3 20 {(bytes(16) + b'body' + x[20:]).hex()}", content, x, 3, headers=(0, 0), plans=3)
     a.upgrade(f"3 4 {(b'body' + x[4:]).hex()}", content, x, 3, headers=(16, 0), plans=3)
     a.upgrade(f"7 29 {(head + b'firstx').hex()}", content, x, 1, headers=(0, 64), plans=3)
+    a.c.title("a rest behind the last whole slot is no plan")
+    a.upgrade(f"2 28 {(head + b'bodyxx').hex()}", content, x, 2, plans=1, rest=SLOT - 1)
+    a.upgrade("r10", content, x, 2, plans=1, unplanned=(2,), rest=SLOT - 1)
+    a.upgrade(f"8 29 {(head + b'otherx').hex()}", content, x, 2, plans=2, rest=1)
     a.c.title("4,096 bytes without a plan")
     whole = bytes(i % 251 for i in range(4096))
     a.upgrade(f"3 4104 {(head + whole[16:]).hex()}", whole, head + b"x" * 4080, 3, plans=3)
