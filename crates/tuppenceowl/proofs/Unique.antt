@@ -19,6 +19,9 @@ use Rattle.layout.specs.declared.block.Holder.{Holder}
 use Rattle.builders.specs.Cursor.{Outcome, outcome, fresh}
 use Rattle.builders.specs.declared.FieldCursor.{FieldCursor}
 use Rattle.builders.specs.declared.Placed.{Placed}
+use Rattle.dispatch.specs.Dispatch.{appliedOf, afterApply, upgradedOf, afterUpgrade}
+use Rattle.dispatch.specs.declared.Upgraded.{Upgraded}
+use Rattle.tuppenceowl.specs.Upgrading.{upgradedStatus, rtypeOr, sizeOr}
 
 equal : {A : Type 0} {x r s : A} → r ≡ x → s ≡ x → r ≡ s
 equal p q = p ∙ sym q
@@ -105,3 +108,44 @@ owl-verdict-unique cat stream k compiled r s = equal
 pub owl-verdict-of-unique : (cat stream : List ℕ) (rtype : ℕ) (compiled : List ℕ) (r s : ℕ)
     → r ≡ judgedStatus (judgedRtype cat stream rtype compiled) → s ≡ judgedStatus (judgedRtype cat stream rtype compiled) → r ≡ s
 owl-verdict-of-unique cat stream rtype compiled r s = equal
+
+-- ---- the upgrade: the answer, and the target as it is left; for hosts the status, both numbers and the target
+
+module _ (promised : Upgraded) (left : List ℕ) where
+  upgraded-unique : (r s : Upgraded) (d e : List ℕ) → r ≡ promised → d ≡ left → s ≡ promised → e ≡ left → (r ≡ s) × (d ≡ e)
+  upgraded-unique r s d e er ed es ee = (equal er es, equal ed ee)
+
+  owl-upgraded-unique : (rtype size r s b a m n : ℕ) (d e : List ℕ)
+      → r ≡ upgradedStatus promised → b ≡ rtypeOr promised rtype → m ≡ sizeOr promised size → d ≡ left
+      → s ≡ upgradedStatus promised → a ≡ rtypeOr promised rtype → n ≡ sizeOr promised size → e ≡ left
+      → (r ≡ s) × (b ≡ a) × (m ≡ n) × (d ≡ e)
+  owl-upgraded-unique rtype size r s b a m n d e er eb em ed es ea en ee = (equal er es, equal eb ea, equal em en, equal ed ee)
+
+module _ (slot src : List ℕ) (stated : ℕ) (dst : List ℕ) where
+  pub apply-unique : (r s : Upgraded) (d e : List ℕ)
+      → r ≡ appliedOf slot src stated dst → d ≡ afterApply slot src stated dst
+      → s ≡ appliedOf slot src stated dst → e ≡ afterApply slot src stated dst → (r ≡ s) × (d ≡ e)
+  apply-unique = upgraded-unique (appliedOf slot src stated dst) (afterApply slot src stated dst)
+
+  pub owl-apply-unique : (rtype size r s b a m n : ℕ) (d e : List ℕ)
+      → r ≡ upgradedStatus (appliedOf slot src stated dst) → b ≡ rtypeOr (appliedOf slot src stated dst) rtype → m ≡ sizeOr (appliedOf slot src stated dst) size
+      → d ≡ afterApply slot src stated dst
+      → s ≡ upgradedStatus (appliedOf slot src stated dst) → a ≡ rtypeOr (appliedOf slot src stated dst) rtype → n ≡ sizeOr (appliedOf slot src stated dst) size
+      → e ≡ afterApply slot src stated dst → (r ≡ s) × (b ≡ a) × (m ≡ n) × (d ≡ e)
+  owl-apply-unique = owl-upgraded-unique (appliedOf slot src stated dst) (afterApply slot src stated dst)
+
+module _ (plans unplanned : List ℕ) (rtype srcHeader dstHeader : ℕ) (src : List ℕ) (stated : ℕ) (dst : List ℕ) where
+  abbrev answered : Upgraded
+  answered = upgradedOf plans unplanned rtype srcHeader dstHeader src stated dst
+
+  abbrev kept : List ℕ
+  kept = afterUpgrade plans unplanned rtype srcHeader dstHeader src stated dst
+
+  pub upgrade-unique : (r s : Upgraded) (d e : List ℕ) → r ≡ answered → d ≡ kept → s ≡ answered → e ≡ kept → (r ≡ s) × (d ≡ e)
+  upgrade-unique = upgraded-unique answered kept
+
+  pub owl-upgrade-unique : (became size r s b a m n : ℕ) (d e : List ℕ)
+      → r ≡ upgradedStatus answered → b ≡ rtypeOr answered became → m ≡ sizeOr answered size → d ≡ kept
+      → s ≡ upgradedStatus answered → a ≡ rtypeOr answered became → n ≡ sizeOr answered size → e ≡ kept
+      → (r ≡ s) × (b ≡ a) × (m ≡ n) × (d ≡ e)
+  owl-upgrade-unique = owl-upgraded-unique answered kept

@@ -1,3 +1,4 @@
 pub mod Answers
 pub mod Comparing
 pub mod Hosted
+pub mod Upgrading

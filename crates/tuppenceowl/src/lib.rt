@@ -2,6 +2,7 @@
 pub mod building;
 pub mod comparing;
 pub mod hashing;
+pub mod upgrading;
 
 ghost use mathlib.Core.Path.{_≡_};
 ghost use Rattle.admission.specs.Admission.{admitCatalogue, admitOf, statusOf};
