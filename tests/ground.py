@@ -13,6 +13,7 @@ import os, random, struct, subprocess, sys
 from building_cases import buildings
 from comparing_cases import comparings, recorded_pairs
 from model import *
+from model_upgrade import Slots
 from upgrading_cases import upgradings
 
 ROOT = os.path.join(os.path.dirname(os.path.abspath(__file__)), "..")
@@ -22,7 +23,7 @@ ROOT = os.path.join(os.path.dirname(os.path.abspath(__file__)), "..")
 
 class Cases:
     def __init__(self):
-        self.lines, self.answers, self.cat, self.block = [], [], b"", b""
+        self.lines, self.answers, self.cat, self.block, self.slots = [], [], b"", b"", Slots()
 
     def put(self, line, answer):
         self.lines.append(line)

@@ -199,14 +199,14 @@ def any_stated(rng, out, k, least):
     plan = Plan(out.model.part(SLOT * k, SLOT))
     roll = rng.random()
     if roll < 0.05:
-        return rng.choice((0, least - 1, 4096, 4097)) % 65536
+        return rng.choice((0, max(0, least - 1), 4096, 4097, 65535))
     return max(any_length(rng, plan.steps()[:128], plan.src_base), least if roll < 0.9 else 0)
 
 
 def content_for(rng, out, k, stated):
     """as many bytes as are stated, or more, or fewer"""
     steps = Plan(out.model.part(SLOT * k, SLOT)).steps()[:128]
-    return any_source(rng, steps, max(0, stated + rng.choice((0, 0, 0, 0, 0, 1, 9, -1))))
+    return any_source(rng, steps, min(4200, max(0, stated + rng.choice((0, 0, 0, 0, 0, 1, 9, -1)))))
 
 
 def ask_apply(rng, out, k, by_rust):

@@ -3,7 +3,7 @@ import os, random
 
 from model import *
 from model_plan import BODY_FROM, COPY, INT, SLOT, front, slot_of
-from model_upgrade import Slots, sum_of
+from model_upgrade import sum_of
 from upgrades import BREAKS, broken, bytes_of
 
 HERE = os.path.dirname(os.path.abspath(__file__))
@@ -13,7 +13,7 @@ class Asked:
     """puts cases whose answers are stated here into the list, and asserts that the model gives the same"""
 
     def __init__(self, cases):
-        self.c, self.model = cases, Slots()
+        self.c, self.model = cases, cases.slots
 
     def ask(self, line, answer):
         self.model.cat, self.model.block = self.c.cat, self.c.block
@@ -372,10 +372,16 @@ def recorded(a, name):
             a.ask(line, answer)
 
 
-def upgradings(c):
+def plannings(c):
     a = Asked(c)
     recorded(a, "recorded_plans.cases")
-    recorded(a, "recorded_upgrades.cases")
     c.catalogue("a valid catalogue", 0, catalogue())
-    for some in (selections, rules, firsts, joins, bodies, headers, plan_refusals, checked, whole_steps, apply_refusals, dispatches, dispatch_refusals, under_no_catalogue):
+    for some in (selections, rules, firsts, joins, bodies, headers, plan_refusals, under_no_catalogue):
+        some(a)
+
+
+def upgradings(c):
+    a = Asked(c)
+    recorded(a, "recorded_upgrades.cases")
+    for some in (checked, whole_steps, apply_refusals, dispatches, dispatch_refusals):
         some(a)
