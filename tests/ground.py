@@ -14,7 +14,7 @@ from building_cases import buildings
 from comparing_cases import comparings, recorded_pairs
 from model import *
 from model_upgrade import Slots
-from upgrading_cases import upgradings
+from upgrading_cases import plannings, upgradings
 
 ROOT = os.path.join(os.path.dirname(os.path.abspath(__file__)), "..")
 
@@ -446,7 +446,7 @@ def recorded(c):
 
 def fixed():
     c = Cases()
-    for part_of_list in (catalogues, pairs, shapes, limits, overlaps, widths, sizes, windows, fields, hashes, recorded, comparings, recorded_pairs, buildings, upgradings):
+    for part_of_list in (catalogues, pairs, shapes, limits, overlaps, widths, sizes, windows, fields, hashes, recorded, comparings, recorded_pairs, buildings, plannings, upgradings):
         if part_of_list is not catalogues and not valid(c.cat):
             c.catalogue("a valid catalogue", 0, catalogue())
         part_of_list(c)

@@ -73,6 +73,10 @@ fn of_plans(
     plans: &mut Plans,
     out: &mut [u8],
 ) -> usize {
+    let of_plan = ask_plan::asked(line, cat, layout, table, plans, out);
+    if of_plan != 0 {
+        return of_plan;
+    }
     ask_upgrade::asked(line, table, plans, out)
 }
 
