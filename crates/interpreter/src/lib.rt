@@ -59,10 +59,10 @@ fn run_step(step: Step, src: &[u8], dst: &mut [u8])
         } => {
             let source = lent::wide16(src_offset);
             let target = lent::wide16(dst_offset);
-            let n = lent::wide16(src_size);
-            let m = lent::wide16(dst_size);
-            if source + n <= src.len() {
-                carry_int(source, target, n, m, signed, has_undef_max, src, dst);
+            let from = lent::wide16(src_size);
+            let to = lent::wide16(dst_size);
+            if source + from <= src.len() {
+                carry_int(source, target, from, to, signed, has_undef_max, src, dst);
             }
         }
     }

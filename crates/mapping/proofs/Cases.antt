@@ -5,7 +5,7 @@ use Prim.Native.Nat.{ℕ, _+_, _-_, _^_, _≤_, _<_}
 use mathlib.Core.Logic.{_⊎_, inl, inr}
 use native.Mathlib.Omega.{arith}
 use lib.Dec.{leb, ltb, eqb}
-use borrow.Author.Tests.{lt-ltb, le-ltb, le-leb, lt-leb, eq-eqb, ne-eqb, eqb-false}
+use borrow.Author.Tests.{lt-ltb, le-ltb, le-leb, lt-leb, leb-true, leb-false, eq-eqb, ne-eqb, eqb-false}
 use Rattle.mapping.specs.Mapping.{half, span, mid, integerOf, least, largest, numberOf, mapped, mapInt}
 
 or-last : (a b : Bool) → (a || (b || true)) ≡ true
@@ -119,3 +119,22 @@ module _ {n m : ℕ} {k : Bool} {v a b : ℕ} (h· : Halves n m k v a b) where
 pub unmarked : (k t : Bool) → (t ≡ false) ⊎ (k ≡ false) → (k && t) ≡ false
 unmarked k t (inl h) = simp (h, and-false)
 unmarked k t (inr h) = simp h
+
+turned : {n m v a b : ℕ} → Halves n m false v a b → (x : ℕ) → x < b + b → Halves m n false x b a
+turned h x l = record { ea = h .eb; eb = h .ea; la = h .lb; pa = h .pb; lb = h .la; pb = h .pa; fit = l }
+
+-- an integer that is widened without a mark is the same integer
+pub same-integer : (s : Bool) (n m v a b : ℕ) → Halves n m false v a b → a ≤ b → integerOf s m (mapInt n m s false v) ≡ integerOf s n v
+unfolding integerOf
+same-integer false n m v a b h w = sym (u-in h refl (omega arith) refl)
+same-integer true n m v a b h w = by (leb a v) (leb-true a v) (leb-false a v) where
+  by : (p : Bool) → (p ≡ true → a ≤ v) → (p ≡ false → v < a) → integerOf true m (mapInt n m true false v) ≡ integerOf true n v
+  by true below-zero other =
+      let l = below-zero refl in
+      ap (integerOf true m) (sym (neg-in h refl l (omega arith)))
+      ∙ (neg-integer (turned h (v - a + b - a + b) (omega arith)) (omega arith)
+      ∙ ((let e : mid + (v - a + b - a + b) - (b + b) ≡ mid + v - (a + a) = omega arith in e) ∙ sym (neg-integer h l)))
+  by false below-zero other =
+      let l = other refl in
+      ap (integerOf true m) (sym (pos-in h refl l (omega arith) refl))
+      ∙ (pos-integer (turned h v (omega arith)) (omega arith) ∙ sym (pos-integer h l))

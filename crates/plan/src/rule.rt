@@ -56,7 +56,7 @@ fn is_string(cat: &[u8], f: FieldDef) -> bool
     catalogue::class_of(cat, f.type_id) == catalogue::STRING
 }
 
-fn is_signed(cat: &[u8], f: FieldDef) -> bool
+pub fn is_signed(cat: &[u8], f: FieldDef) -> bool
     ensures { λ r. ⌜ r ≡ isSigned (now (cat .entry)) f ⌝ }
 {
     catalogue::class_of(cat, f.type_id) == catalogue::SIGNED

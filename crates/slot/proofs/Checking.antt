@@ -56,12 +56,12 @@ module _ (slot : List ℕ) (at left low high : ℕ) (all : Bool) (so : keeps slo
 abbrev Bytes : List ℕ → Type 0
 Bytes s = (i : ℕ) → byteAt s i < 256
 
-bytes-every : (xs : List ℕ) → Bytes xs → every isByte xs ≡ true
+pub bytes-every : (xs : List ℕ) → Bytes xs → every isByte xs ≡ true
 unfolding every
 bytes-every [] h = refl
 bytes-every (x ∷ xs) h = rw (lt-ltb x 256 (h 0)) (bytes-every xs (λ i. h (suc i)))
 
-bytes-window : (s : List ℕ) (at n : ℕ) → Bytes s → Bytes (window s at n)
+pub bytes-window : (s : List ℕ) (at n : ℕ) → Bytes s → Bytes (window s at n)
 bytes-window s at n h i = by (leb (suc i) n) (leb-true (suc i) n) (leb-false (suc i) n) where
   by : (p : Bool) → (p ≡ true → i < n) → (p ≡ false → n < suc i) → byteAt (window s at n) i < 256
   by true yes-in out = rw (getD-take n (drop at s) i 0 (yes-in refl), getD-drop at s i 0) (h (at + i))
@@ -73,7 +73,7 @@ bytes-window s at n h i = by (leb (suc i) n) (leb-true (suc i) n) (leb-false (su
 small : (s : List ℕ) (at : ℕ) → Bytes s → ltb (numberAt s at 2) 65536 ≡ true
 small s at h = lt-ltb (numberAt s at 2) 65536 (omega (arith, h at, h (at + 1)))
 
-gathered-length : {A : Type 0} (read : ℕ → A) (step at n : ℕ) → length (gather read step at n) ≡ n
+pub gathered-length : {A : Type 0} (read : ℕ → A) (step at n : ℕ) → length (gather read step at n) ≡ n
 unfolding gather
 gathered-length read step at zero = refl
 gathered-length read step at (suc n) = ap suc (gathered-length read step (at + step) n)

@@ -1,0 +1,4 @@
+pub mod Stores
+pub mod Cuts
+pub mod Planned
+pub mod Values

@@ -1,0 +1,3 @@
+pub mod Bytewise
+pub mod Body
+pub mod Recut
