@@ -93,6 +93,19 @@ pub fn in_order(n: u16) -> Vec<u8> {
     block(&(0..n).collect::<Vec<_>>())
 }
 
+/// Every third field as wide as its sign allows.
+fn wider(i: u16) -> [u8; 16] {
+    match INTEGERS[usize::from(i) % INTEGERS.len()] {
+        (unsigned, _) if i % 3 == 0 && unsigned < 16 => row(i, (4, 8)),
+        _ if i % 3 == 0 => row(i, (20, 8)),
+        same => row(i, same),
+    }
+}
+
+pub fn widened(n: u16) -> Vec<u8> {
+    block_of(&(0..n).collect::<Vec<_>>(), wider)
+}
+
 /// From the last to the first: the worst order for an insertion.
 pub fn reversed(n: u16) -> Vec<u8> {
     block(&(0..n).rev().collect::<Vec<_>>())

@@ -23,6 +23,23 @@ extern "C" {
         compiled: *const u8,
         compiled_len: usize,
     ) -> u8;
+    fn owl_plan(
+        cat: *const u8,
+        cat_len: usize,
+        source: *const u8,
+        source_len: usize,
+        k: usize,
+        target: *const u8,
+        target_len: usize,
+        to: usize,
+        header: usize,
+        body: *const u8,
+        body_len: usize,
+        marks: *const u8,
+        marks_len: usize,
+        slot: *mut u8,
+        slot_len: usize,
+    ) -> u8;
     fn owl_apply(
         slot: *const u8,
         slot_len: usize,
@@ -129,6 +146,36 @@ pub fn verdict(cat: &[u8], stream: &[u8], compiled: &[u8]) -> u8 {
             0,
             compiled.as_ptr(),
             compiled.len(),
+        )
+    }
+}
+
+/// From the first record of the one to the first of the other, no field marked.
+pub fn plan(
+    cat: &[u8],
+    source: &[u8],
+    target: &[u8],
+    header: usize,
+    body: &[u8],
+    slot: &mut [u8],
+) -> u8 {
+    unsafe {
+        owl_plan(
+            cat.as_ptr(),
+            cat.len(),
+            source.as_ptr(),
+            source.len(),
+            0,
+            target.as_ptr(),
+            target.len(),
+            0,
+            header,
+            body.as_ptr(),
+            body.len(),
+            [].as_ptr(),
+            0,
+            slot.as_mut_ptr(),
+            slot.len(),
         )
     }
 }

@@ -1,13 +1,78 @@
-//! Rows for the interpreter and the dispatch, on headers of 16 and 24 bytes. The port tests every rule of a plan, the Rust none.
+//! Rows for the planner, the interpreter and the dispatch, on headers of 16 and 24 bytes. The port admits both layouts, tests the body and every rule of a plan; the
+//! Rust tests none of these.
 use crate::measure::Call;
-use crate::{port, row, Ends, Row};
+use crate::{inputs, port, row, Ends, Row};
+use judge::block;
 use judge::layout::wire::upgrade::{Dispatch, Plan, Step};
+use judge::layout::StreamLayout;
 use judge::slot;
 use std::hint::black_box;
 
 const HEADER: usize = slot::HEADER;
 const SOURCE_HEADER: usize = slot::SOURCE_HEADER;
 const RTYPE: u8 = 1;
+
+// ---- the planner
+
+pub struct Planning {
+    fields: u16,
+    source: Vec<u8>,
+    target: Vec<u8>,
+    body: Vec<u8>,
+    theirs: (StreamLayout, StreamLayout),
+}
+
+pub fn plannings() -> Vec<Planning> {
+    let of = |fields: u16| {
+        let (source, target) = (inputs::in_order(fields), inputs::widened(fields));
+        Planning {
+            fields,
+            body: vec![0; 8 * usize::from(fields)],
+            theirs: (block::layout(&source), block::layout(&target)),
+            source,
+            target,
+        }
+    };
+    [30, 128].map(of).into()
+}
+
+fn planned((source, target): &(StreamLayout, StreamLayout)) -> Plan {
+    Plan::new(&source.record_layouts[0], &target.record_layouts[0])
+}
+
+pub fn planning_row<'a>(catalogue: &'a [u8], p: &'a Planning) -> Row<'a> {
+    let mut ours = vec![0; slot::SLOT];
+    assert_eq!(
+        port::plan(catalogue, &p.source, &p.target, HEADER, &p.body, &mut ours),
+        0,
+        "the port refuses to plan"
+    );
+    let base = |l: &StreamLayout| l.record_layouts[0].base_record_size;
+    let theirs = slot::packed(&planned(&p.theirs), base(&p.theirs.0), base(&p.theirs.1));
+    assert!(ours == theirs, "the plans differ");
+    let ours: Call = Box::new(move || {
+        black_box(port::plan(
+            black_box(catalogue),
+            black_box(&p.source),
+            black_box(&p.target),
+            HEADER,
+            black_box(&p.body),
+            &mut ours,
+        ));
+    });
+    let theirs: Call = Box::new(move || {
+        black_box(planned(black_box(&p.theirs)));
+    });
+    row(
+        &format!(
+            "a plan of {} fields with admission and the body's test, `UpgradePlan::new`",
+            p.fields
+        ),
+        ours,
+        theirs,
+        Ends::Most(1.5),
+    )
+}
 
 // ---- the interpreter and the dispatch
 
