@@ -13,7 +13,9 @@ import os, random, struct, subprocess, sys
 from building_cases import buildings
 from comparing_cases import comparings, recorded_pairs
 from model import *
+from model_upgrade import Slots
 from text_cases import texts as plan_texts
+from upgrading_cases import plannings, upgradings
 
 ROOT = os.path.join(os.path.dirname(os.path.abspath(__file__)), "..")
 
@@ -22,7 +24,7 @@ ROOT = os.path.join(os.path.dirname(os.path.abspath(__file__)), "..")
 
 class Cases:
     def __init__(self):
-        self.lines, self.answers, self.cat, self.block = [], [], b"", b""
+        self.lines, self.answers, self.cat, self.block, self.slots = [], [], b"", b"", Slots()
 
     def put(self, line, answer):
         self.lines.append(line)
@@ -445,7 +447,8 @@ def recorded(c):
 
 def fixed():
     c = Cases()
-    for part_of_list in (catalogues, pairs, shapes, limits, overlaps, widths, sizes, windows, fields, hashes, recorded, comparings, recorded_pairs, buildings, plan_texts):
+    for part_of_list in (catalogues, pairs, shapes, limits, overlaps, widths, sizes, windows, fields, hashes, recorded, comparings, recorded_pairs, buildings, plannings,
+                         upgradings, plan_texts):
         if part_of_list is not catalogues and not valid(c.cat):
             c.catalogue("a valid catalogue", 0, catalogue())
         part_of_list(c)

@@ -40,7 +40,10 @@ pub const INTEGERS: [(u8, u8); 8] = [
 
 /// Integers, each of eight bytes' room.
 fn field(i: u16) -> [u8; 16] {
-    let (type_id, size) = INTEGERS[usize::from(i) % INTEGERS.len()];
+    row(i, INTEGERS[usize::from(i) % INTEGERS.len()])
+}
+
+fn row(i: u16, (type_id, size): (u8, u8)) -> [u8; 16] {
     let mut row = [0; 16];
     row[..2].copy_from_slice(&(2 + i).to_le_bytes());
     row[2..4].copy_from_slice(&(24 + 8 * i).to_le_bytes());
@@ -70,6 +73,10 @@ fn name(text: &str) -> [u8; 33] {
 }
 
 fn block(places: &[u16]) -> Vec<u8> {
+    block_of(places, field)
+}
+
+fn block_of(places: &[u16], field: fn(u16) -> [u8; 16]) -> Vec<u8> {
     let n = places.len() as u32;
     let mut b = vec![1, 0, 0, 0, 0, 0, 0, 0, 1, 0, 1, 0];
     for number in [24 + 8 * n, 0, 0, 80, 16 * n, 80 + 16 * n, 33 * n] {
@@ -84,6 +91,19 @@ fn block(places: &[u16]) -> Vec<u8> {
 
 pub fn in_order(n: u16) -> Vec<u8> {
     block(&(0..n).collect::<Vec<_>>())
+}
+
+/// Every third field as wide as its sign allows.
+fn wider(i: u16) -> [u8; 16] {
+    match INTEGERS[usize::from(i) % INTEGERS.len()] {
+        (unsigned, _) if i % 3 == 0 && unsigned < 16 => row(i, (4, 8)),
+        _ if i % 3 == 0 => row(i, (20, 8)),
+        same => row(i, same),
+    }
+}
+
+pub fn widened(n: u16) -> Vec<u8> {
+    block_of(&(0..n).collect::<Vec<_>>(), wider)
 }
 
 /// From the last to the first: the worst order for an insertion.

@@ -3,6 +3,7 @@ mod cursors;
 mod inputs;
 mod measure;
 mod port;
+mod upgrades;
 mod verdicts;
 
 use judge::block;
@@ -22,6 +23,8 @@ struct Inputs {
     scaling: Vec<(u16, Vec<u8>)>,
     pairs: Vec<verdicts::Pair>,
     buildings: Vec<cursors::Building>,
+    plannings: Vec<upgrades::Planning>,
+    upgradings: Vec<upgrades::Upgrading>,
 }
 
 impl Inputs {
@@ -37,6 +40,8 @@ impl Inputs {
             scaling: [16, 32, 64, 128].map(|n| (n, inputs::in_order(n))).into(),
             pairs: verdicts::pairs(),
             buildings: cursors::buildings(),
+            plannings: upgrades::plannings(),
+            upgradings: upgrades::upgradings(),
         }
     }
 }
@@ -205,6 +210,11 @@ fn rows(i: &Inputs) -> Vec<Row<'_>> {
     all.extend(i.hashed.iter().flat_map(|h| hash_rows(&i.catalogue, h)));
     all.extend(i.pairs.iter().flat_map(|p| verdicts::rows(&i.catalogue, p)));
     all.extend(i.buildings.iter().map(|b| cursors::rows(&i.catalogue, b)));
+    let planned = |p| upgrades::planning_row(&i.catalogue, p);
+    all.extend(i.plannings.iter().map(planned));
+    all.extend(i.upgradings.iter().map(upgrades::apply_row));
+    // the others differ in the same steps
+    all.push(upgrades::dispatch_row(&i.upgradings[0]));
     all.extend(i.scaling.iter().map(|s| scaling_row(&i.catalogue, s)));
     all
 }

@@ -23,6 +23,50 @@ extern "C" {
         compiled: *const u8,
         compiled_len: usize,
     ) -> u8;
+    fn owl_plan(
+        cat: *const u8,
+        cat_len: usize,
+        source: *const u8,
+        source_len: usize,
+        k: usize,
+        target: *const u8,
+        target_len: usize,
+        to: usize,
+        header: usize,
+        body: *const u8,
+        body_len: usize,
+        marks: *const u8,
+        marks_len: usize,
+        slot: *mut u8,
+        slot_len: usize,
+    ) -> u8;
+    fn owl_apply(
+        slot: *const u8,
+        slot_len: usize,
+        record: *const u8,
+        record_len: usize,
+        stated: usize,
+        target: *mut u8,
+        target_len: usize,
+        rtype: *mut u16,
+        size: *mut usize,
+    ) -> u8;
+    fn owl_upgrade(
+        plans: *const u8,
+        plans_len: usize,
+        unplanned: *const u16,
+        unplanned_len: usize,
+        rtype: u16,
+        source_header: usize,
+        target_header: usize,
+        record: *const u8,
+        record_len: usize,
+        stated: usize,
+        target: *mut u8,
+        target_len: usize,
+        became: *mut u16,
+        size: *mut usize,
+    ) -> u8;
     fn owl_cursor_scalar(
         cat: *const u8,
         cat_len: usize,
@@ -102,6 +146,83 @@ pub fn verdict(cat: &[u8], stream: &[u8], compiled: &[u8]) -> u8 {
             0,
             compiled.as_ptr(),
             compiled.len(),
+        )
+    }
+}
+
+/// From the first record of the one to the first of the other, no field marked.
+pub fn plan(
+    cat: &[u8],
+    source: &[u8],
+    target: &[u8],
+    header: usize,
+    body: &[u8],
+    slot: &mut [u8],
+) -> u8 {
+    unsafe {
+        owl_plan(
+            cat.as_ptr(),
+            cat.len(),
+            source.as_ptr(),
+            source.len(),
+            0,
+            target.as_ptr(),
+            target.len(),
+            0,
+            header,
+            body.as_ptr(),
+            body.len(),
+            [].as_ptr(),
+            0,
+            slot.as_mut_ptr(),
+            slot.len(),
+        )
+    }
+}
+
+/// The whole record.
+pub fn apply(slot: &[u8], record: &[u8], target: &mut [u8]) -> u8 {
+    let (mut rtype, mut size) = (0, 0);
+    unsafe {
+        owl_apply(
+            slot.as_ptr(),
+            slot.len(),
+            record.as_ptr(),
+            record.len(),
+            record.len(),
+            target.as_mut_ptr(),
+            target.len(),
+            &mut rtype,
+            &mut size,
+        )
+    }
+}
+
+/// The whole record, with nothing listed unplanned.
+pub fn upgrade(
+    plans: &[u8],
+    rtype: u16,
+    headers: (usize, usize),
+    record: &[u8],
+    target: &mut [u8],
+) -> u8 {
+    let (mut became, mut size) = (0, 0);
+    unsafe {
+        owl_upgrade(
+            plans.as_ptr(),
+            plans.len(),
+            [].as_ptr(),
+            0,
+            rtype,
+            headers.0,
+            headers.1,
+            record.as_ptr(),
+            record.len(),
+            record.len(),
+            target.as_mut_ptr(),
+            target.len(),
+            &mut became,
+            &mut size,
         )
     }
 }

@@ -4,6 +4,7 @@
 use crate::layout::wire::builders::Cursor;
 use crate::layout::{FieldDef, StreamLayout};
 use crate::v4::fields::{scalar_size, FLAG_IS_ARRAY, STRUCT_ID};
+use crate::words::shown_hex;
 use std::panic::{catch_unwind, AssertUnwindSafe};
 
 const MOST_BYTES: u16 = 4096;
@@ -118,10 +119,6 @@ fn slot(name: &str) -> [u8; SLOT] {
     b
 }
 
-fn hex(bytes: &[u8]) -> std::string::String {
-    bytes.iter().map(|b| format!("{b:02x}")).collect()
-}
-
 impl Building {
     pub fn begin(&mut self, holder: &str) -> Option<std::string::String> {
         self.most = match holder {
@@ -165,6 +162,11 @@ impl Building {
 
     pub fn built(&self, k: usize) -> Option<std::string::String> {
         let (table, names) = (self.table.get(..ROW * k)?, self.names.get(..SLOT * k)?);
-        Some(format!("{} {} {}", self.state(), hex(table), hex(names)))
+        Some(format!(
+            "{} {} {}",
+            self.state(),
+            shown_hex(table),
+            shown_hex(names)
+        ))
     }
 }

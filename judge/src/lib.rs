@@ -7,6 +7,7 @@ include!(concat!(env!("OUT_DIR"), "/tree.rs"));
 pub mod block;
 mod building;
 mod outside;
+pub mod slot;
 pub mod v3;
 pub mod v4;
 pub mod words;

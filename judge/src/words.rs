@@ -3,11 +3,15 @@ use crate::layout::{wire, RecordLayout, StreamLayout};
 
 mod building;
 mod comparing;
+mod planning;
+mod upgrading;
 
 /// What earlier lines stated.
 pub struct Kept {
     layout: StreamLayout,
     building: crate::building::Building,
+    /// Four slots of plans.
+    slots: Vec<u8>,
 }
 
 impl Default for Kept {
@@ -15,6 +19,7 @@ impl Default for Kept {
         Self {
             layout: crate::block::layout(&[]),
             building: Default::default(),
+            slots: vec![0; 4 * crate::slot::SLOT],
         }
     }
 }
@@ -51,6 +56,12 @@ const WORDS: &[(&str, usize, Ask)] = &[
     ("verdict_of", 2, comparing::verdict_of),
     ("by_id", 2, comparing::by_id),
     ("by_name", 2, comparing::by_name),
+    ("select", 3, planning::select),
+    ("plan", 8, planning::plan),
+    ("put", 2, planning::put),
+    ("slots", 2, planning::slots),
+    ("apply", 5, upgrading::apply),
+    ("upgrade", 8, upgrading::upgrade),
 ];
 
 fn asked(words: &[&str]) -> Option<Ask> {
@@ -87,6 +98,10 @@ fn number<T: std::str::FromStr>(word: &str) -> Option<T> {
 
 fn or_none(answer: Option<String>) -> Answer {
     Some(answer.unwrap_or_else(|| "none".to_owned()))
+}
+
+pub(crate) fn shown_hex(bytes: &[u8]) -> String {
+    bytes.iter().map(|b| format!("{b:02x}")).collect()
 }
 
 fn hash_text(hash: u64) -> String {

@@ -1,4 +1,5 @@
 //! The checked cases of the rules that the Rust answers too, so that the stand-ins and the probes can be trusted.
+use judge::layout::wire::upgrade::{Dispatch, Plan, Step};
 use judge::layout::wire::{hash, set_sources, upgrade};
 use judge::layout::{FieldDef, RecordLayout, StreamLayout};
 use judge::v3::{state, Stated};
@@ -103,4 +104,58 @@ fn dispatch_by_the_header_and_by_what_is_stated() {
     let unplanned = upgrade::Dispatch::new(&stream(Vec::new()), None);
     state(Stated::default());
     assert!(unplanned.upgrade(&bytes, &mut out).is_err());
+}
+
+/// What an integer step from 16 to 24 makes of the bytes.
+fn mapped(bytes: &[u8], to: u16, signed: bool, marked: bool) -> Vec<u8> {
+    let from = bytes.len() as u16;
+    let step = Step::Int {
+        source: 16,
+        target: 24,
+        from,
+        to,
+        signed,
+        marked,
+    };
+    let plan = Plan::by_hand(1, 1, &[step], &vec![0; to.into()]);
+    let mut out = vec![0; plan.record_size()];
+    plan.apply(&[&[0; 16], bytes].concat(), &mut out);
+    out[24..].to_vec()
+}
+
+#[test]
+fn integers() {
+    assert_eq!(mapped(&(-200i16).to_le_bytes(), 1, true, true), [127]);
+    assert_eq!(mapped(&(-1i32).to_le_bytes(), 8, true, false), [0xFF; 8]);
+    let most = u32::MAX.to_le_bytes();
+    let same = u64::from(u32::MAX).to_le_bytes();
+    assert_eq!(mapped(&most, 8, false, false), same);
+    assert_eq!(mapped(&most, 8, false, true), [0xFF; 8]);
+}
+
+/// docs/DIFFERENCES.md: a length below the header where there is a plan, and plans that break a rule.
+#[test]
+fn what_the_port_refuses() {
+    let copy = |size| Step::Copy {
+        source: 8,
+        target: 24,
+        size,
+    };
+    let plan = |size| Plan::by_hand(1, 1, &[copy(size)], &[7; 4]);
+    let dispatch = Dispatch::by_hand(vec![plan(4)], Vec::new());
+    let below = |length| {
+        state(Stated {
+            rtype: Some(1),
+            length: Some(length),
+        });
+        let mut out = [0; 28];
+        let done = dispatch.upgrade(&[1; 16], &mut out).unwrap();
+        (done, out[24])
+    };
+    assert_eq!(below(15), (Some(28), 1));
+    assert_eq!(below(11), (Some(28), 7));
+    state(Stated::default());
+    let past = || plan(5).apply(&[1; 16], &mut [0; 28]);
+    assert!(std::panic::catch_unwind(past).is_err());
+    assert_eq!(mapped(&[1, 2], 1, false, false), [1]);
 }

@@ -193,19 +193,6 @@ fn ask_base(
     )
 }
 
-// As many ids as the bytes have, and as there is room for.
-fn ids_in(bytes: &[u8], ids: &mut [u16]) -> usize {
-    let mut n = 0;
-    while n < ids.len() {
-        if bytes.len() / 2 <= n {
-            return n;
-        }
-        ids[n] = lent::join(lent::byte_at(bytes, 2 * n), lent::byte_at(bytes, 2 * n + 1));
-        n += 1;
-    }
-    n
-}
-
 fn finish_by(
     cat: &[u8],
     state: &State,
@@ -236,7 +223,7 @@ fn ask_finish(
         return answer::malformed(out);
     };
     let mut ids = [0u16; 64];
-    let many = ids_in(lent::part(table, 0, n), &mut ids);
+    let many = caseline::ids(lent::part(table, 0, n), &mut ids);
     placed(state, finish_by(cat, state, rows, slots, &ids, many), out)
 }
 

@@ -8,20 +8,6 @@ use tuppenceowl::comparing::Judged;
 
 pub type Table = [u8; 32768];
 
-// A number of two bytes.
-fn short(text: &[u8]) -> Parsed {
-    match caseline::number(text) {
-        Parsed::Is(n) => {
-            if n < 65536 {
-                Parsed::Is(n)
-            } else {
-                Parsed::Malformed
-            }
-        }
-        Parsed::Malformed => Parsed::Malformed,
-    }
-}
-
 fn judged(out: &mut [u8], j: Judged) -> usize {
     match j {
         Judged::Is(v) => match v {
@@ -67,7 +53,7 @@ fn ask_verdict_of(
     if caseline::words(line) != 3 {
         return answer::malformed(out);
     }
-    let Parsed::Is(rtype) = short(caseline::word(line, 1)) else {
+    let Parsed::Is(rtype) = caseline::short(caseline::word(line, 1)) else {
         return answer::malformed(out);
     };
     let Parsed::Is(n) = caseline::hex(caseline::word(line, 2), table) else {
@@ -84,10 +70,10 @@ fn ask_by_id(line: &[u8], cat: &[u8], layout: &[u8], out: &mut [u8]) -> usize {
     if caseline::words(line) != 3 {
         return answer::malformed(out);
     }
-    let Parsed::Is(rtype) = short(caseline::word(line, 1)) else {
+    let Parsed::Is(rtype) = caseline::short(caseline::word(line, 1)) else {
         return answer::malformed(out);
     };
-    let Parsed::Is(id) = short(caseline::word(line, 2)) else {
+    let Parsed::Is(id) = caseline::short(caseline::word(line, 2)) else {
         return answer::malformed(out);
     };
     let wanted = (id % 65536) as u16;
@@ -101,7 +87,7 @@ fn ask_by_name(line: &[u8], cat: &[u8], layout: &[u8], table: &mut Table, out: &
     if caseline::words(line) != 3 {
         return answer::malformed(out);
     }
-    let Parsed::Is(rtype) = short(caseline::word(line, 1)) else {
+    let Parsed::Is(rtype) = caseline::short(caseline::word(line, 1)) else {
         return answer::malformed(out);
     };
     let Parsed::Is(n) = caseline::hex(caseline::word(line, 2), table) else {

@@ -154,3 +154,32 @@ fn value(text: &[u8]) -> Parsed
     }
     Parsed::Is(n)
 }
+
+// A number of two bytes.
+pub fn short(text: &[u8]) -> Parsed {
+    match number(text) {
+        Parsed::Is(n) => {
+            if n < 65536 {
+                Parsed::Is(n)
+            } else {
+                Parsed::Malformed
+            }
+        }
+        Parsed::Malformed => Parsed::Malformed,
+    }
+}
+
+// ---- ids
+
+// The ids of two bytes each: as many as the bytes have, and as there is room for.
+pub fn ids(bytes: &[u8], ids: &mut [u16]) -> usize {
+    let mut n = 0;
+    while n < ids.len() {
+        if bytes.len() / 2 <= n {
+            return n;
+        }
+        ids[n] = lent::join(lent::byte_at(bytes, 2 * n), lent::byte_at(bytes, 2 * n + 1));
+        n += 1;
+    }
+    n
+}

@@ -1,6 +1,6 @@
 // The buffers, and how large they are.
 
-// Twice the longest line.
+// More than the longest line.
 pub const ROOM_SIZE: usize = 131072;
 
 pub type Room = [u8; ROOM_SIZE];

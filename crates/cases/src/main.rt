@@ -6,6 +6,7 @@ mod words;
 use ask_cursor::Rows;
 use ask_cursor::Slots;
 use ask_cursor::State;
+use ask_upgrade::Plans;
 use kept::Catalogue;
 use kept::Room;
 use kept::Sizes;
@@ -38,6 +39,7 @@ fn answered(
     state: &mut State,
     rows: &mut Rows,
     slots: &mut Slots,
+    plans: &mut Plans,
 ) {
     if is_echoed(line) {
         io::write_all(STDOUT_FILENO, line);
@@ -54,6 +56,7 @@ fn answered(
         state,
         rows,
         slots,
+        plans,
         &mut out,
     );
     let end = caseline::put::byte(&mut out, n, NEWLINE);
@@ -70,6 +73,7 @@ fn whole_lines(
     state: &mut State,
     rows: &mut Rows,
     slots: &mut Slots,
+    plans: &mut Plans,
 ) -> usize {
     let mut at = 0;
     let mut end = caseline::find(bytes, at, NEWLINE);
@@ -83,6 +87,7 @@ fn whole_lines(
             state,
             rows,
             slots,
+            plans,
         );
         at = end + 1;
         end = caseline::find(bytes, at, NEWLINE);
@@ -101,6 +106,7 @@ fn turn(
     state: &mut State,
     rows: &mut Rows,
     slots: &mut Slots,
+    plans: &mut Plans,
 ) -> Step {
     let have = input::more(room, waiting);
     if have == waiting {
@@ -114,6 +120,7 @@ fn turn(
                 state,
                 rows,
                 slots,
+                plans,
             );
         }
         return Step::End;
@@ -127,6 +134,7 @@ fn turn(
         state,
         rows,
         slots,
+        plans,
     );
     let left = input::to_front(room, rest, have);
     Step::Waiting(input::without_long(room, left))
@@ -142,11 +150,23 @@ fn run(
     state: &mut State,
     rows: &mut Rows,
     slots: &mut Slots,
+    plans: &mut Plans,
 ) {
     let mut waiting = 0;
     let mut turns = u64::MAX;
     while turns > 0 {
-        match turn(room, waiting, cat, layout, table, sizes, state, rows, slots) {
+        match turn(
+            room,
+            waiting,
+            cat,
+            layout,
+            table,
+            sizes,
+            state,
+            rows,
+            slots,
+            plans,
+        ) {
             Step::Waiting(n) => waiting = n,
             Step::End => return,
         }
@@ -163,6 +183,7 @@ fn main() {
     let mut state = [0usize; 5];
     let mut rows = [0u8; 2048];
     let mut slots = [0u8; 4224];
+    let mut plans = [0u8; 24640];
     run(
         &mut room,
         &mut cat,
@@ -172,5 +193,6 @@ fn main() {
         &mut state,
         &mut rows,
         &mut slots,
+        &mut plans,
     );
 }

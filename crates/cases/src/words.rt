@@ -6,6 +6,7 @@ use crate::kept::Table;
 use ask_cursor::Rows;
 use ask_cursor::Slots;
 use ask_cursor::State;
+use ask_upgrade::Plans;
 use caseline::Parsed;
 use caseline::answer;
 
@@ -68,6 +69,21 @@ fn asked(line: &[u8], cat: &[u8], layout: &[u8], table: &mut Table, out: &mut [u
     answer::malformed(out)
 }
 
+fn of_plans(
+    line: &[u8],
+    cat: &[u8],
+    layout: &[u8],
+    table: &mut Table,
+    plans: &mut Plans,
+    out: &mut [u8],
+) -> usize {
+    let of_plan = ask_plan::asked(line, cat, layout, table, plans, out);
+    if of_plan != 0 {
+        return of_plan;
+    }
+    ask_upgrade::asked(line, table, plans, out)
+}
+
 // The answer to a line, put into out: how many bytes it has.
 pub fn answer(
     line: &[u8],
@@ -78,6 +94,7 @@ pub fn answer(
     state: &mut State,
     rows: &mut Rows,
     slots: &mut Slots,
+    plans: &mut Plans,
     out: &mut [u8],
 ) -> usize {
     let word = caseline::word(line, 0);
@@ -92,6 +109,10 @@ pub fn answer(
     let of_cursor = ask_cursor::asked(line, whole, block, table, state, rows, slots, out);
     if of_cursor != 0 {
         return of_cursor;
+    }
+    let of_plan = of_plans(line, whole, block, table, plans, out);
+    if of_plan != 0 {
+        return of_plan;
     }
     asked(line, whole, block, table, out)
 }

@@ -1,7 +1,9 @@
 -- Two answers that meet a public call's promise are equal: a promise leaves nothing open. Assumes nothing.
 use mathlib.Core.Path.{_≡_, sym, ap, _∙_}
+use mathlib.Core.Bool.{Bool}
 use mathlib.Core.List.{List}
 use Prim.Native.Nat.{ℕ}
+use lib.ListN.{length}
 use Rattle.admission.specs.Admission.{admitCatalogue, admitOf, statusOf}
 use Rattle.admission.specs.declared.Admitted.{Admitted}
 use Rattle.tuppenceowl.specs.Answers.{sizedOf, windowedOf, foundOf, summedOf, bootedOf, summedStatus, hashOr, visitsOr}
@@ -27,6 +29,11 @@ use Rattle.builders.specs.declared.FieldCursor.{FieldCursor}
 use Rattle.builders.specs.declared.Placed.{Placed}
 use Rattle.dispatch.specs.Dispatch.{appliedOf, afterApply, upgradedOf, afterUpgrade}
 use Rattle.dispatch.specs.declared.Upgraded.{Upgraded}
+use Rattle.planner.specs.Planner.{plannedOf, afterPlan}
+use Rattle.planner.specs.Select.{selectedOf}
+use Rattle.planner.specs.declared.Planned.{Planned}
+use Rattle.planner.specs.declared.select.Selected.{Selected}
+use Rattle.tuppenceowl.specs.Planning.{plannedStatus, selectedStatus, recordOr}
 use Rattle.tuppenceowl.specs.Upgrading.{upgradedStatus, rtypeOr, sizeOr}
 
 equal : {A : Type 0} {x r s : A} → r ≡ x → s ≡ x → r ≡ s
@@ -114,6 +121,29 @@ owl-verdict-unique cat stream k compiled r s = equal
 pub owl-verdict-of-unique : (cat stream : List ℕ) (rtype : ℕ) (compiled : List ℕ) (r s : ℕ)
     → r ≡ judgedStatus (judgedRtype cat stream rtype compiled) → s ≡ judgedStatus (judgedRtype cat stream rtype compiled) → r ≡ s
 owl-verdict-of-unique cat stream rtype compiled r s = equal
+
+-- ---- selection and planner: the answer, and the room as it is left
+
+pub select-unique : (cat source : List ℕ) (k : ℕ) (target : List ℕ) (wanted : Bool) (schema : ℕ) (r s : Selected)
+    → r ≡ selectedOf cat source k target wanted schema → s ≡ selectedOf cat source k target wanted schema → r ≡ s
+select-unique cat source k target wanted schema r s = equal
+
+pub owl-select-unique : (promised : Selected) (number r s n m : ℕ)
+    → r ≡ selectedStatus promised → n ≡ recordOr promised number → s ≡ selectedStatus promised → m ≡ recordOr promised number → (r ≡ s) × (n ≡ m)
+owl-select-unique promised number r s n m er en es em = (equal er es, equal en em)
+
+module _ (cat source : List ℕ) (k : ℕ) (target : List ℕ) (to header : ℕ) (body marks room : List ℕ) where
+  abbrev planned : Planned
+  planned = plannedOf cat source k target to header body marks (length room)
+
+  abbrev laid : List ℕ
+  laid = afterPlan cat source k target to header body marks room
+
+  pub plan-unique : (r s : Planned) (d e : List ℕ) → r ≡ planned → d ≡ laid → s ≡ planned → e ≡ laid → (r ≡ s) × (d ≡ e)
+  plan-unique r s d e er ed es ee = (equal er es, equal ed ee)
+
+  pub owl-plan-unique : (r s : ℕ) (d e : List ℕ) → r ≡ plannedStatus planned → d ≡ laid → s ≡ plannedStatus planned → e ≡ laid → (r ≡ s) × (d ≡ e)
+  owl-plan-unique r s d e er ed es ee = (equal er es, equal ed ee)
 
 -- ---- the upgrade: the answer, and the target as it is left; for hosts the status, both numbers and the target
 

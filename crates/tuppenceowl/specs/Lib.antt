@@ -1,5 +1,6 @@
 pub mod Answers
 pub mod Comparing
 pub mod Hosted
+pub mod Planning
 pub mod Upgrading
 pub mod Texting

@@ -2,8 +2,9 @@
 pub mod building;
 pub mod comparing;
 pub mod hashing;
-pub mod upgrading;
+pub mod planning;
 pub mod texting;
+pub mod upgrading;
 
 ghost use mathlib.Core.Path.{_≡_};
 ghost use Rattle.admission.specs.Admission.{admitCatalogue, admitOf, statusOf};

@@ -4,8 +4,8 @@ use borrow.Author.Needs.{needs}
 use lib.ListN.{length, length-set}
 use mathlib.Core.Path.{_≡_}
 use native.Mathlib.Omega.{arith}
-use Rattle.ask_cursor.proofs.ids_in.Statement.{statement}
-use Rattle.ask_cursor.proofs.ids_in.Tie as tie
+use Rattle.caseline.proofs.ids.Statement.{statement}
+use Rattle.caseline.proofs.ids.Tie as tie
 
 abbrev Inv-loop : tie.InvT-loop
 Inv-loop bytes ids₀ n₀ ids n = (n ≤ length ids₀) × (length ids ≡ length ids₀)
@@ -61,8 +61,8 @@ same-length-2 c = omega arith
 returns-2 : tie.Need-returns-2 Inv-loop μ-loop
 returns-2 c = search needs
 
-pub ids-in-spec : {M : Type 1} → statement M
-ids-in-spec =
+pub ids-spec : {M : Type 1} → statement M
+ids-spec =
     tie.close
     (tie.spec
     Inv-loop
