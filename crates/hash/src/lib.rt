@@ -127,7 +127,7 @@ fn hash_table(
     let mut visits = used;
     let mut k = 0;
     while k < n {
-        let f = field::field_at(table, lent::wide16(order[k]));
+        let f = field::field_in(table, lent::wide16(order[k]));
         match hash_field(cat, l, t, levels - 1, budget, f, fp, visits) {
             Hashed::Sum(sum, seen) => {
                 fp = sum;
