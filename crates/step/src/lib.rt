@@ -75,10 +75,20 @@ pub fn end_of(step: Step) -> usize
     }
 }
 
+// By branches, which become one test of a bit; rows of comparisons do not.
 fn is_width(n: u16) -> bool
     ensures { λ r. ⌜ r ≡ isWidth n ⌝ }
 {
-    (n == 1) | ((n == 2) | ((n == 4) | (n == 8)))
+    if n == 1 {
+        return true;
+    }
+    if n == 2 {
+        return true;
+    }
+    if n == 4 {
+        return true;
+    }
+    n == 8
 }
 
 fn widths_ok(from: u16, to: u16, marked: bool) -> bool
