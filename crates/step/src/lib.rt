@@ -94,7 +94,13 @@ fn is_width(n: u16) -> bool
 fn widths_ok(from: u16, to: u16, marked: bool) -> bool
     ensures { λ r. ⌜ r ≡ widthsOk from to marked ⌝ }
 {
-    is_width(from) & (is_width(to) & ((from != to) & (marked | (from < to))))
+    if !is_width(from) {
+        return false;
+    }
+    if !is_width(to) {
+        return false;
+    }
+    (from != to) & (marked | (from < to))
 }
 
 // The rules that concern a step alone.
