@@ -75,7 +75,7 @@ pub fn end_of(step: Step) -> usize
     }
 }
 
-// By branches, which become one test of a bit; rows of comparisons do not.
+// By branches, and so is `widths_ok`: rows of comparisons become slower vector code.
 fn is_width(n: u16) -> bool
     ensures { λ r. ⌜ r ≡ isWidth n ⌝ }
 {
