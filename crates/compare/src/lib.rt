@@ -86,15 +86,29 @@ fn field_eq(cat: &[u8], s: &[u8], f: FieldDef, c: &[u8], g: FieldDef) -> bool
     named_eq(s, f, c, g)
 }
 
-// The stream's field at a place of its table: a field of another id costs one read.
-fn row_eq(cat: &[u8], s: &[u8], haves: &[u8], at: usize, c: &[u8], want: FieldDef) -> bool
-    requires { ⌜ FewFields (now s) × FewFields (now c) × (at + 16 ≤ length (now haves)) ⌝ }
-    ensures { λ r. ⌜ r ≡ fieldEq (now (cat .entry)) (now (s .entry)) (fieldAt (now (haves .entry)) at) (now (c .entry)) want ⌝ }
+// The fields at two places of the tables: one of another id costs two reads.
+fn row_eq(
+    cat: &[u8],
+    s: &[u8],
+    haves: &[u8],
+    from: usize,
+    c: &[u8],
+    wants: &[u8],
+    at: usize,
+) -> bool
+    requires { ⌜ FewFields (now s) × FewFields (now c) × (from + 16 ≤ length (now haves)) × (at + 16 ≤ length (now wants)) ⌝ }
+    ensures { λ r. ⌜ r ≡ fieldEq (now (cat .entry)) (now (s .entry)) (fieldAt (now (haves .entry)) from) (now (c .entry)) (fieldAt (now (wants .entry)) at) ⌝ }
 {
-    if lent::u16_in(haves, at) != want.field_id {
+    if lent::u16_in(haves, from) != lent::u16_in(wants, at) {
         return false;
     }
-    field_eq(cat, s, field::field_in(haves, at), c, want)
+    field_eq(
+        cat,
+        s,
+        field::field_in(haves, from),
+        c,
+        field::field_in(wants, at),
+    )
 }
 
 fn is_id(t: &[u8], at: usize, id: u16) -> bool
@@ -142,7 +156,8 @@ fn is_base_compatible(cat: &[u8], s: &[u8], h: usize, c: &[u8], g: usize) -> boo
     let mut at = 0;
     let mut left = wants.len() / field::SIZE;
     'next: while left != 0 {
-        let want = field::field_in(wants, at);
+        let here = at;
+        let want = field::field_in(wants, here);
         at += field::SIZE;
         left -= 1;
         if field::is_padding(cat, want) {
@@ -152,7 +167,7 @@ fn is_base_compatible(cat: &[u8], s: &[u8], h: usize, c: &[u8], g: usize) -> boo
         let mut from = field::SIZE * front;
         let mut rest = haves.len() / field::SIZE - front;
         while rest != 0 {
-            if row_eq(cat, s, haves, from, c, want) {
+            if row_eq(cat, s, haves, from, c, wants, here) {
                 continue 'next;
             }
             from += field::SIZE;

@@ -3,6 +3,7 @@ pub mod Shifts
 pub mod Entries
 pub mod Agree
 pub mod Words
+pub mod Digits
 pub mod Turns
 pub mod Runs
 pub mod Vectors

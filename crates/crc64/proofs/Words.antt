@@ -9,7 +9,7 @@ use Rattle.crc64.specs.Sum.{shift, shifts, due, byteStep, bytesStep}
 use Rattle.crc64.proofs.Shifts.{shifts-above}
 use Rattle.crc64.proofs.Xor.{xor-assoc}
 
-shifts-add : (n m x : ℕ) → shifts (n + m) x ≡ shifts m (shifts n x)
+pub shifts-add : (n m x : ℕ) → shifts (n + m) x ≡ shifts m (shifts n x)
 unfolding shifts
 shifts-add zero m x = let e : 0 + m ≡ m = omega arith in rw e
 shifts-add (suc n) m x = let e : suc n + m ≡ suc (n + m) = omega arith in rw e (shifts-add n m (shift x))

@@ -1,5 +1,5 @@
 -- The sum's rule, bit by bit.
-use Prim.Native.Nat.{ℕ, zero, suc, _/_, _%_}
+use Prim.Native.Nat.{ℕ, zero, suc, _*_, _/_, _%_, _^_}
 use mathlib.Core.Bool.{cond}
 use mathlib.Core.List.{List, [], _∷_}
 use lib.Bits.{bitXor}
@@ -37,3 +37,7 @@ bytesStep fp (b ∷ bs) = bytesStep (byteStep fp b) bs
 -- what eight shifts give, for each byte
 unfoldable pub byteTable : List ℕ
 byteTable = gather (shifts 8) 1 0 256
+
+-- what sixteen shifts give, for each digit to base 16 at each of four places
+unfoldable pub digitTable : List ℕ
+digitTable = gather (λ i. shifts 16 (i % 16 * 16 ^ (i / 16))) 1 0 64

@@ -1,8 +1,6 @@
 // A byte at a time, by a table of what eight shifts give. The table is laid out once and lent: an index into the constant
 // would lay all of it out again.
 ghost use mathlib.Core.Path.{_≡_};
-ghost use Prim.Native.Nat.{_<_, _^_};
-ghost use Rattle.lent.specs.Bytes.{bytesOf};
 ghost use Rattle.crc64.specs.Sum.{byteTable, due, byteStep, bytesStep};
 
 // Entry i is eight shifts of i.
@@ -278,20 +276,6 @@ fn shifted(t: &[u64; 256], x: u64) -> u64
 {
     let i = (x & 0xFF) as usize;
     (x >> 8) ^ t[i]
-}
-
-// A number of n bytes, the low one first: all of it is xored in at once, and then each byte's shifts follow.
-pub fn step_number(t: &[u64; 256], fp: u64, v: u64, n: usize) -> u64
-    requires { ⌜ (now t ≡ byteTable) × (v < 256 ^ n) ⌝ }
-    ensures { λ r. ⌜ r ≡ bytesStep fp (bytesOf n v) ⌝ }
-{
-    let mut x = fp ^ v;
-    let mut left = n;
-    while left != 0 {
-        x = shifted(t, x);
-        left -= 1;
-    }
-    x
 }
 
 // A run of bytes is carried with a byte xored in and its shifts due: the next byte goes in beside the look-up, not after it.

@@ -1,6 +1,7 @@
 // Crc64 of dbn's hash.rs: CRC-64-AVRO, the sum behind a layout's hash.
 pub mod bitwise;
 pub mod bytewise;
+pub mod digitwise;
 
 ghost use mathlib.Core.Path.{_≡_};
 ghost use Rattle.crc64.specs.Sum.{empty, byteStep, u16Step, bytesStep};

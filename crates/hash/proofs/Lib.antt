@@ -1,3 +1,4 @@
 pub mod Fed
 pub mod Walks
 pub mod Prints
+pub mod Placed

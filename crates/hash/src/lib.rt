@@ -3,14 +3,14 @@ ghost use mathlib.Core.Path.{_≡_};
 ghost use Prim.Native.Nat.{_+_, _*_, _<_, _≤_};
 ghost use lib.ListN.{length};
 ghost use Rattle.lent.specs.Bytes.{bytesOf};
-ghost use Rattle.crc64.specs.Sum.{byteTable, bytesStep};
+ghost use Rattle.crc64.specs.Sum.{digitTable, bytesStep};
 ghost use Rattle.field.specs.Field.{fieldsOf};
 ghost use Rattle.hash.specs.Walk.{fieldBytes, namesStruct, walkField, walkTable};
 ghost use Rattle.hash.specs.Hash.{hashOf};
 ghost use Rattle.hash.specs.Parts.{visitOf, near, told, rowStep};
 ghost use Rattle.layout.specs.Layout.{FewFields};
 use crc64::Crc64;
-use crc64::bytewise;
+use crc64::digitwise;
 use field::FieldDef;
 use layout::block;
 use layout::block::Holder;
@@ -30,14 +30,14 @@ enum Visit {
 }
 
 // A field's own bytes: the eight that stand together in its row go in as one number, then the scale.
-fn field_sum(t: &[u64; 256], start: u64, f: FieldDef) -> u64
-    requires { ⌜ now t ≡ byteTable ⌝ }
+fn field_sum(t: &[u64; 64], start: u64, f: FieldDef) -> u64
+    requires { ⌜ now t ≡ digitTable ⌝ }
     ensures { λ r. ⌜ r ≡ bytesStep start (fieldBytes f) ⌝ }
 {
     let kind = (f.type_id as u64) + 256 * (f.flags as u64);
     let place = (f.offset as u64) + 65536 * ((f.size as u64) + 65536 * kind);
-    let sum = bytewise::step_number(t, start, (f.field_id as u64) + 65536 * place, 8);
-    bytewise::step_number(t, sum, field::scale_byte(f.scale) as u64, 1)
+    let sum = digitwise::step_number(t, start, (f.field_id as u64) + 65536 * place, 8);
+    digitwise::step_number(t, sum, field::scale_byte(f.scale) as u64, 1)
 }
 
 fn names_struct(cat: &[u8], l: &[u8], f: FieldDef) -> bool
@@ -47,24 +47,24 @@ fn names_struct(cat: &[u8], l: &[u8], f: FieldDef) -> bool
 }
 
 // A struct's size, which goes in before its fields: two bytes.
-fn size_sum(t: &[u64; 256], start: u64, size: usize) -> u64
-    requires { ⌜ now t ≡ byteTable ⌝ }
+fn size_sum(t: &[u64; 64], start: u64, size: usize) -> u64
+    requires { ⌜ now t ≡ digitTable ⌝ }
     ensures { λ r. ⌜ r ≡ bytesStep start (bytesOf 2 size) ⌝ }
 {
-    bytewise::step_number(t, start, (size % 65536) as u64, 2)
+    digitwise::step_number(t, start, (size % 65536) as u64, 2)
 }
 
 // All of a field's walk that does not enter anything.
 fn visited(
     cat: &[u8],
     l: &[u8],
-    t: &[u64; 256],
+    t: &[u64; 64],
     budget: usize,
     f: FieldDef,
     fp: u64,
     visits: usize,
 ) -> Visit
-    requires { ⌜ now t ≡ byteTable ⌝ }
+    requires { ⌜ now t ≡ digitTable ⌝ }
     ensures { λ r. ⌜ (r ≡ visitOf (now (cat .entry)) (now (l .entry)) budget f fp visits) × near r ⌝ }
 {
     if budget <= visits {
@@ -83,14 +83,14 @@ fn visited(
 fn hash_field(
     cat: &[u8],
     l: &[u8],
-    t: &[u64; 256],
+    t: &[u64; 64],
     levels: usize,
     budget: usize,
     f: FieldDef,
     fp: u64,
     visits: usize,
 ) -> Hashed
-    requires { ⌜ (now t ≡ byteTable) × FewFields (now l) × (levels < 1024) ⌝ }
+    requires { ⌜ (now t ≡ digitTable) × FewFields (now l) × (levels < 1024) ⌝ }
     ensures { λ r. ⌜ r ≡ told (walkField bytesStep (now (cat .entry)) (now (l .entry)) budget (walkTable bytesStep (now (cat .entry)) (now (l .entry)) budget levels) f fp visits) ⌝ }
 {
     match visited(cat, l, t, budget, f, fp, visits) {
@@ -107,14 +107,14 @@ fn hash_field(
 fn hash_table(
     cat: &[u8],
     l: &[u8],
-    t: &[u64; 256],
+    t: &[u64; 64],
     levels: usize,
     budget: usize,
     table: &[u8],
     start: u64,
     used: usize,
 ) -> Hashed
-    requires { ⌜ (now t ≡ byteTable) × FewFields (now l) × (levels < 1024) × (length (now table) ≤ 2048) ⌝ }
+    requires { ⌜ (now t ≡ digitTable) × FewFields (now l) × (levels < 1024) × (length (now table) ≤ 2048) ⌝ }
     ensures { λ r. ⌜ r ≡ told (walkTable bytesStep (now (cat .entry)) (now (l .entry)) budget levels (fieldsOf (now (table .entry))) start used) ⌝ }
 {
     if levels == 0 {
@@ -127,7 +127,7 @@ fn hash_table(
     let mut visits = used;
     let mut k = 0;
     while k < n {
-        let f = field::field_at(table, lent::wide16(order[k]));
+        let f = field::field_in(table, lent::wide16(order[k]));
         match hash_field(cat, l, t, levels - 1, budget, f, fp, visits) {
             Hashed::Sum(sum, seen) => {
                 fp = sum;
@@ -145,7 +145,7 @@ pub fn hash_record(cat: &[u8], l: &[u8], budget: usize, table: &[u8]) -> Hashed
     requires { ⌜ FewFields (now l) × (length (now table) ≤ 2048) ⌝ }
     ensures { λ r. ⌜ r ≡ hashOf (now (cat .entry)) (now (l .entry)) budget (fieldsOf (now (table .entry))) ⌝ }
 {
-    let t = bytewise::table();
+    let t = digitwise::table();
     hash_table(
         cat,
         l,
@@ -165,7 +165,7 @@ fn with_row(crc: Crc64, row: &[u8]) -> Crc64
     requires { ⌜ length (now row) ≡ 16 ⌝ }
     ensures { λ r. ⌜ r .fp ≡ rowStep (crc .fp) (now (row .entry)) ⌝ }
 {
-    let t = bytewise::table();
+    let t = digitwise::table();
     Crc64 {
         fp: field_sum(&t, crc.fp, field::field_in(row, 0)),
     }

@@ -75,16 +75,32 @@ pub fn end_of(step: Step) -> usize
     }
 }
 
+// By branches, and so is `widths_ok`: rows of comparisons become slower vector code.
 fn is_width(n: u16) -> bool
     ensures { λ r. ⌜ r ≡ isWidth n ⌝ }
 {
-    (n == 1) | ((n == 2) | ((n == 4) | (n == 8)))
+    if n == 1 {
+        return true;
+    }
+    if n == 2 {
+        return true;
+    }
+    if n == 4 {
+        return true;
+    }
+    n == 8
 }
 
 fn widths_ok(from: u16, to: u16, marked: bool) -> bool
     ensures { λ r. ⌜ r ≡ widthsOk from to marked ⌝ }
 {
-    is_width(from) & (is_width(to) & ((from != to) & (marked | (from < to))))
+    if !is_width(from) {
+        return false;
+    }
+    if !is_width(to) {
+        return false;
+    }
+    (from != to) & (marked | (from < to))
 }
 
 // The rules that concern a step alone.

@@ -14,12 +14,12 @@ use Rattle.compare.proofs.is_base_compatible.Statement.{statement}
 use Rattle.compare.proofs.is_base_compatible.Tie as tie
 
 abbrev Inv-loop : tie.InvT-loop
-Inv-loop cat s h c g haves wants at left want front from₀ rest₀ from rest =
+Inv-loop cat s h c g haves wants at left here front from₀ rest₀ from rest =
     (from + 16 * rest ≤ length haves)
-    × (some (λ have. fieldEq cat s have c want) (gather (fieldAt haves) 16 from rest) ≡ some (λ have. fieldEq cat s have c want) (fieldsOf haves))
+    × (some (λ have. fieldEq cat s have c (fieldAt wants here)) (gather (fieldAt haves) 16 from rest) ≡ some (λ have. fieldEq cat s have c (fieldAt wants here)) (fieldsOf haves))
 
 abbrev μ-loop : tie.MeasureT-loop
-μ-loop cat s h c g haves wants at left want front from₀ rest₀ from rest = rest
+μ-loop cat s h c g haves wants at left here front from₀ rest₀ from rest = rest
 
 abbrev Inv-next : tie.InvT-next
 Inv-next cat s h c g haves wants at₀ left₀ at left =
@@ -82,10 +82,10 @@ sub-rest : tie.Need-sub-rest Inv-loop μ-loop Inv-next μ-next
 sub-rest c = omega (arith, c .skipped .ensures .within)
 
 loop-holds : tie.Need-loop-holds Inv-loop μ-loop Inv-next μ-next
-loop-holds c = (omega (arith, c .skipped .ensures .within), c .skipped .ensures .rest _ (λ f h. sym (ids-differ (c .before .before .before .before .before .before .before .before .before .before .before .before .before .before .args .cat .now) (c .before .before .before .before .before .before .before .before .before .before .before .before .before .before .args .s .now) f (c .before .before .before .before .before .before .before .before .before .before .before .before .before .before .args .c .now) (c .before .before .before .field-in .result) h)))
+loop-holds c = (omega (arith, c .skipped .ensures .within), rw (← c .before .before .before .field-in .ensures) (c .skipped .ensures .rest _ (λ f h. sym (ids-differ (c .before .before .before .before .before .before .before .before .before .before .before .before .before .before .args .cat .now) (c .before .before .before .before .before .before .before .before .before .before .before .before .before .before .args .s .now) f (c .before .before .before .before .before .before .before .before .before .before .before .before .before .before .args .c .now) (c .before .before .before .field-in .result) h))))
 
 row-eq-requires : tie.Need-row-eq-requires Inv-loop μ-loop Inv-next μ-next
-row-eq-requires c κs = (c .before .before .before .before .before .before .before .before .before .before .before .before .before .before .before .before .pre .0, c .before .before .before .before .before .before .before .before .before .before .before .before .before .before .before .before .pre .1, omega arith)
+row-eq-requires c κs = (c .before .before .before .before .before .before .before .before .before .before .before .before .before .before .before .before .pre .0, c .before .before .before .before .before .before .before .before .before .before .before .before .before .before .before .before .pre .1, omega arith, omega arith)
 
 next-less-2 : tie.Need-next-less-2 Inv-loop μ-loop Inv-next μ-next
 next-less-2 c = omega arith
@@ -95,7 +95,7 @@ next-again-2 c = (
   omega arith,
   goes (fieldAt (c .before .before .before .before .before .before .before .before .before .before .table-at2 .result .now)) 16 (c .before .before .before .before .before .before .before .before .before .next .at) (c .before .before .before .before .before .before .before .before .before .next .left) (met (c .before .before .before .before .before .before .before .before .before .before .before .before .before .before .before .before .before .before .args .cat .now) (c .before .before .before .before .before .before .before .before .before .before .before .before .before .before .before .before .before .before .args .s .now) (fieldsOf (c .before .before .before .before .before .before .before .before .before .before .before .table-at .result .now)) (c .before .before .before .before .before .before .before .before .before .before .before .before .before .before .before .before .before .before .args .c .now)) _ (c .before .before .before .before .before .before .before .before .before .next .inv .1) (omega arith)
       (met-found (c .before .before .before .before .before .before .before .before .before .before .before .before .before .before .before .before .before .before .args .cat .now) (c .before .before .before .before .before .before .before .before .before .before .before .before .before .before .before .before .before .before .args .s .now) (fieldsOf (c .before .before .before .before .before .before .before .before .before .before .before .table-at .result .now)) (c .before .before .before .before .before .before .before .before .before .before .before .before .before .before .before .before .before .before .args .c .now) (fieldAt (c .before .before .before .before .before .before .before .before .before .before .table-at2 .result .now) (c .before .before .before .before .before .before .before .before .before .next .at)) (c .before .before .before .before .before .before .before .field-in .result) (c .before .before .before .before .before .before .before .field-in .ensures)
-      (finds (fieldAt (c .before .before .before .before .before .before .before .before .before .before .before .table-at .result .now)) 16 (c .before .before .before .loop .from) (c .before .before .before .loop .rest) (λ have. fieldEq (c .before .before .before .before .before .before .before .before .before .before .before .before .before .before .before .before .before .before .args .cat .now) (c .before .before .before .before .before .before .before .before .before .before .before .before .before .before .before .before .before .before .args .s .now) have (c .before .before .before .before .before .before .before .before .before .before .before .before .before .before .before .before .before .before .args .c .now) (c .before .before .before .before .before .before .before .field-in .result)) _ (c .before .before .before .loop .inv .1) (omega arith) (sym (c .before .row-eq .ensures) ∙ c .if3 .taken))),
+      (rw (c .before .before .before .before .before .before .before .field-in .ensures) (finds (fieldAt (c .before .before .before .before .before .before .before .before .before .before .before .table-at .result .now)) 16 (c .before .before .before .loop .from) (c .before .before .before .loop .rest) (λ have. fieldEq (c .before .before .before .before .before .before .before .before .before .before .before .before .before .before .before .before .before .before .args .cat .now) (c .before .before .before .before .before .before .before .before .before .before .before .before .before .before .before .before .before .before .args .s .now) have (c .before .before .before .before .before .before .before .before .before .before .before .before .before .before .before .before .before .before .args .c .now) (fieldAt (c .before .before .before .before .before .before .before .before .before .before .table-at2 .result .now) (c .before .before .before .before .before .before .before .before .before .next .at))) _ (c .before .before .before .loop .inv .1) (omega arith) (sym (c .before .row-eq .ensures) ∙ c .if3 .taken)))),
 )
 
 add-from : tie.Need-add-from Inv-loop μ-loop Inv-next μ-next
@@ -110,14 +110,14 @@ loop-less c = omega arith
 loop-again : tie.Need-loop-again Inv-loop μ-loop Inv-next μ-next
 loop-again c = (
   omega arith,
-  seeks (fieldAt (c .before .before .before .before .before .before .before .before .before .before .before .table-at .result .now)) 16 (c .before .before .before .loop .from) (c .before .before .before .loop .rest) (λ have. fieldEq (c .before .before .before .before .before .before .before .before .before .before .before .before .before .before .before .before .before .before .args .cat .now) (c .before .before .before .before .before .before .before .before .before .before .before .before .before .before .before .before .before .before .args .s .now) have (c .before .before .before .before .before .before .before .before .before .before .before .before .before .before .before .before .before .before .args .c .now) (c .before .before .before .before .before .before .before .field-in .result)) _ (c .before .before .before .loop .inv .1) (omega arith) (sym (c .before .row-eq .ensures) ∙ c .if3 .left),
+  seeks (fieldAt (c .before .before .before .before .before .before .before .before .before .before .before .table-at .result .now)) 16 (c .before .before .before .loop .from) (c .before .before .before .loop .rest) (λ have. fieldEq (c .before .before .before .before .before .before .before .before .before .before .before .before .before .before .before .before .before .before .args .cat .now) (c .before .before .before .before .before .before .before .before .before .before .before .before .before .before .before .before .before .before .args .s .now) have (c .before .before .before .before .before .before .before .before .before .before .before .before .before .before .before .before .before .before .args .c .now) (fieldAt (c .before .before .before .before .before .before .before .before .before .before .table-at2 .result .now) (c .before .before .before .before .before .before .before .before .before .next .at))) _ (c .before .before .before .loop .inv .1) (omega arith) (sym (c .before .row-eq .ensures) ∙ c .if3 .left),
 )
 
 returns-2 : tie.Need-returns-2 Inv-loop μ-loop Inv-next μ-next
 returns-2 c =
     stops (fieldAt (c .before .before .before .before .before .before .before .before .table-at2 .result .now)) 16 (c .before .before .before .before .before .before .before .next .at) (c .before .before .before .before .before .before .before .next .left) (met (c .before .before .before .before .before .before .before .before .before .before .before .before .before .before .before .before .args .cat .now) (c .before .before .before .before .before .before .before .before .before .before .before .before .before .before .before .before .args .s .now) (fieldsOf (c .before .before .before .before .before .before .before .before .before .table-at .result .now)) (c .before .before .before .before .before .before .before .before .before .before .before .before .before .before .before .before .args .c .now)) _ (c .before .before .before .before .before .before .before .next .inv .1) (omega arith)
     (met-lacks (c .before .before .before .before .before .before .before .before .before .before .before .before .before .before .before .before .args .cat .now) (c .before .before .before .before .before .before .before .before .before .before .before .before .before .before .before .before .args .s .now) (fieldsOf (c .before .before .before .before .before .before .before .before .before .table-at .result .now)) (c .before .before .before .before .before .before .before .before .before .before .before .before .before .before .before .before .args .c .now) (fieldAt (c .before .before .before .before .before .before .before .before .table-at2 .result .now) (c .before .before .before .before .before .before .before .next .at)) (c .before .before .before .before .before .field-in .result) (c .before .before .before .before .before .field-in .ensures) (sym (c .before .before .before .before .is-padding .ensures) ∙ c .before .before .before .if2 .left)
-    (lacks (fieldAt (c .before .before .before .before .before .before .before .before .before .table-at .result .now)) 16 (c .before .loop .from) (c .before .loop .rest) (λ have. fieldEq (c .before .before .before .before .before .before .before .before .before .before .before .before .before .before .before .before .args .cat .now) (c .before .before .before .before .before .before .before .before .before .before .before .before .before .before .before .before .args .s .now) have (c .before .before .before .before .before .before .before .before .before .before .before .before .before .before .before .before .args .c .now) (c .before .before .before .before .before .field-in .result)) _ (c .before .loop .inv .1) (omega arith)))
+    (rw (c .before .before .before .before .before .field-in .ensures) (lacks (fieldAt (c .before .before .before .before .before .before .before .before .before .table-at .result .now)) 16 (c .before .loop .from) (c .before .loop .rest) (λ have. fieldEq (c .before .before .before .before .before .before .before .before .before .before .before .before .before .before .before .before .args .cat .now) (c .before .before .before .before .before .before .before .before .before .before .before .before .before .before .before .before .args .s .now) have (c .before .before .before .before .before .before .before .before .before .before .before .before .before .before .before .before .args .c .now) (fieldAt (c .before .before .before .before .before .before .before .before .table-at2 .result .now) (c .before .before .before .before .before .before .before .next .at))) _ (c .before .loop .inv .1) (omega arith))))
 
 returns-3 : tie.Need-returns-3 Inv-loop μ-loop Inv-next μ-next
 returns-3 c = ends (fieldAt (c .before .before .table-at2 .result .now)) 16 (c .before .next .at) (c .before .next .left) (met (c .before .before .before .before .before .before .before .before .before .before .args .cat .now) (c .before .before .before .before .before .before .before .before .before .before .args .s .now) (fieldsOf (c .before .before .before .table-at .result .now)) (c .before .before .before .before .before .before .before .before .before .before .args .c .now)) _ (c .before .next .inv .1) (omega arith)

@@ -8,6 +8,7 @@ use borrow.Author.Needs.{needs}
 use Rattle.hash.specs.Parts.{told}
 use Rattle.hash.specs.Walk.{walkFields, walkTable}
 use Rattle.hash.proofs.Walks.{taken, taken-walks, few-entered, walk-goes, walk-stops, walk-ends, walk-starts, too-deep}
+use Rattle.hash.proofs.Placed.{placed}
 use Rattle.field.specs.Field.{fieldAt, fieldsOf}
 use Rattle.crc64.specs.Sum.{bytesStep}
 use Prim.Native.Nat.{ℕ, _<_}
@@ -19,7 +20,7 @@ use Rattle.hash.proofs.+hash_field+hash_table.Lts-hash_field as hash-fi
 use Rattle.hash.proofs.hash_table.Reads as hash-table
 use Rattle.hash.proofs.hash_table.Kinds as hash-table-kinds
 use Rattle.hash.proofs.+hash_field+hash_table.Lts-hash_table as hash-table-lts
-use Rattle.field.proofs.field_at.Reads as field-at-reads
+use Rattle.field.proofs.field_in.Reads as field-in-reads
 use Rattle.hash.proofs.visited.Reads as visited-reads
 use Rattle.layout.proofs.block.table_at.Reads as table-at-reads
 use Rattle.lent.proofs.wide16.Reads as wide16-reads
@@ -33,8 +34,8 @@ abbrev μ-hash-field : Measures 3 hash-field-kinds.ps ℕ
 abbrev μ-hash-table : Measures 4 hash-table-kinds.ps ℕ
 μ-hash-table κs a = 2 * a .1 .1 .1 .0
 
-abbrev hash-field-at : ℕ → In 3 hash-field-kinds.ps
-hash-field-at t =
+abbrev hash-field-in : ℕ → In 3 hash-field-kinds.ps
+hash-field-in t =
     and 3 hash-field-kinds.ps (is 3 hash-field-kinds.ps μ-hash-field t) hash-field.Pre
 
 abbrev hash-field-below : ℕ → In 3 hash-field-kinds.ps
@@ -56,7 +57,7 @@ hash-field-visited-requires : (t : ℕ) → hash-field-lts.Need-visited-requires
   table-at-reads.Learnt,
   hash-table-below t,
   hash-table.Post,
-) (hash-field-at t) hash-field.Post
+) (hash-field-in t) hash-field.Post
 hash-field-visited-requires t c κs = c .before .before .pre .1 .0
 
 hash-field-enum-known-sum : (t : ℕ) → hash-field-lts.Need-enum-known-sum (
@@ -66,7 +67,7 @@ hash-field-enum-known-sum : (t : ℕ) → hash-field-lts.Need-enum-known-sum (
   table-at-reads.Learnt,
   hash-table-below t,
   hash-table.Post,
-) (hash-field-at t) hash-field.Post
+) (hash-field-in t) hash-field.Post
 hash-field-enum-known-sum t c = search needs
 
 hash-field-enum-known-sum-2 : (t : ℕ) → hash-field-lts.Need-enum-known-sum-2 (
@@ -76,7 +77,7 @@ hash-field-enum-known-sum-2 : (t : ℕ) → hash-field-lts.Need-enum-known-sum-2
   table-at-reads.Learnt,
   hash-table-below t,
   hash-table.Post,
-) (hash-field-at t) hash-field.Post
+) (hash-field-in t) hash-field.Post
 hash-field-enum-known-sum-2 t c = search needs
 
 hash-field-table-at-requires : (t : ℕ) → hash-field-lts.Need-table-at-requires (
@@ -86,7 +87,7 @@ hash-field-table-at-requires : (t : ℕ) → hash-field-lts.Need-table-at-requir
   table-at-reads.Learnt,
   hash-table-below t,
   hash-table.Post,
-) (hash-field-at t) hash-field.Post
+) (hash-field-in t) hash-field.Post
 hash-field-table-at-requires t c κs = let z : _ < 7864320 = rw (c .before .sum2 .given .1) at (c .before .before .before .visited .ensures .1) in omega arith
 
 hash-field-hash-table-requires : (t : ℕ) → hash-field-lts.Need-hash-table-requires (
@@ -96,7 +97,7 @@ hash-field-hash-table-requires : (t : ℕ) → hash-field-lts.Need-hash-table-re
   table-at-reads.Learnt,
   hash-table-below t,
   hash-table.Post,
-) (hash-field-at t) hash-field.Post
+) (hash-field-in t) hash-field.Post
 hash-field-hash-table-requires t c κs =
     let a = c .before .before .before .before .before .before .before .args in
     let e = sym (c .before .before .sum2 .given .1) ∙ c .before .before .before .before .visited .ensures .0 in (
@@ -116,7 +117,7 @@ hash-field-enum-told : (t : ℕ) → hash-field-lts.Need-enum-told (
   table-at-reads.Learnt,
   hash-table-below t,
   hash-table.Post,
-) (hash-field-at t) hash-field.Post
+) (hash-field-in t) hash-field.Post
 hash-field-enum-told t c = search needs
 
 hash-field-returns : (t : ℕ) → hash-field-lts.Need-returns (
@@ -126,7 +127,7 @@ hash-field-returns : (t : ℕ) → hash-field-lts.Need-returns (
   table-at-reads.Learnt,
   hash-table-below t,
   hash-table.Post,
-) (hash-field-at t) hash-field.Post
+) (hash-field-in t) hash-field.Post
 hash-field-returns t c =
     let a = c .before .before .before .before .before .before .args in
     taken-walks (a .cat .now) (a .l .now) (a .budget) (a .f) (a .fp) (a .visits) (walkTable bytesStep (a .cat .now) (a .l .now) (a .budget) (a .levels)) _
@@ -139,7 +140,7 @@ hash-field-returns-2 : (t : ℕ) → hash-field-lts.Need-returns-2 (
   table-at-reads.Learnt,
   hash-table-below t,
   hash-table.Post,
-) (hash-field-at t) hash-field.Post
+) (hash-field-in t) hash-field.Post
 hash-field-returns-2 t c =
     let a = c .before .before .before .before .before .before .before .before .args in
     c .hash-table .ensures
@@ -154,7 +155,7 @@ hash-field-returns-3 : (t : ℕ) → hash-field-lts.Need-returns-3 (
   table-at-reads.Learnt,
   hash-table-below t,
   hash-table.Post,
-) (hash-field-at t) hash-field.Post
+) (hash-field-in t) hash-field.Post
 hash-field-returns-3 t c =
     let a = c .before .before .before .before .before .args in
     taken-walks (a .cat .now) (a .l .now) (a .budget) (a .f) (a .fp) (a .visits) (walkTable bytesStep (a .cat .now) (a .l .now) (a .budget) (a .levels)) _
@@ -174,8 +175,8 @@ hash-table-returns : (t : ℕ) → hash-table-lts.Need-returns (
   by-offset-reads.Learnt,
   wide16-reads.Asked,
   wide16-reads.Learnt,
-  field-at-reads.Asked,
-  field-at-reads.Learnt,
+  field-in-reads.Asked,
+  field-in-reads.Learnt,
   hash-field-below t,
   hash-field.Post,
 ) (hash-table-at t) hash-table.Post hash-table-Inv-loop hash-table-μ-loop
@@ -186,8 +187,8 @@ hash-table-slice-aggregate-by-offset : (t : ℕ) → hash-table-lts.Need-slice-a
   by-offset-reads.Learnt,
   wide16-reads.Asked,
   wide16-reads.Learnt,
-  field-at-reads.Asked,
-  field-at-reads.Learnt,
+  field-in-reads.Asked,
+  field-in-reads.Learnt,
   hash-field-below t,
   hash-field.Post,
 ) (hash-table-at t) hash-table.Post hash-table-Inv-loop hash-table-μ-loop
@@ -198,8 +199,8 @@ hash-table-by-offset-requires : (t : ℕ) → hash-table-lts.Need-by-offset-requ
   by-offset-reads.Learnt,
   wide16-reads.Asked,
   wide16-reads.Learnt,
-  field-at-reads.Asked,
-  field-at-reads.Learnt,
+  field-in-reads.Asked,
+  field-in-reads.Learnt,
   hash-field-below t,
   hash-field.Post,
 ) (hash-table-at t) hash-table.Post hash-table-Inv-loop hash-table-μ-loop
@@ -210,8 +211,8 @@ hash-table-loop-holds : (t : ℕ) → hash-table-lts.Need-loop-holds (
   by-offset-reads.Learnt,
   wide16-reads.Asked,
   wide16-reads.Learnt,
-  field-at-reads.Asked,
-  field-at-reads.Learnt,
+  field-in-reads.Asked,
+  field-in-reads.Learnt,
   hash-field-below t,
   hash-field.Post,
 ) (hash-table-at t) hash-table.Post hash-table-Inv-loop hash-table-μ-loop
@@ -228,8 +229,8 @@ hash-table-mul-wide16 : (t : ℕ) → hash-table-lts.Need-mul-wide16 (
   by-offset-reads.Learnt,
   wide16-reads.Asked,
   wide16-reads.Learnt,
-  field-at-reads.Asked,
-  field-at-reads.Learnt,
+  field-in-reads.Asked,
+  field-in-reads.Learnt,
   hash-field-below t,
   hash-field.Post,
 ) (hash-table-at t) hash-table.Post hash-table-Inv-loop hash-table-μ-loop
@@ -240,8 +241,8 @@ hash-table-array-read-wide16 : (t : ℕ) → hash-table-lts.Need-array-read-wide
   by-offset-reads.Learnt,
   wide16-reads.Asked,
   wide16-reads.Learnt,
-  field-at-reads.Asked,
-  field-at-reads.Learnt,
+  field-in-reads.Asked,
+  field-in-reads.Learnt,
   hash-field-below t,
   hash-field.Post,
 ) (hash-table-at t) hash-table.Post hash-table-Inv-loop hash-table-μ-loop
@@ -252,32 +253,35 @@ hash-table-wide16-requires : (t : ℕ) → hash-table-lts.Need-wide16-requires (
   by-offset-reads.Learnt,
   wide16-reads.Asked,
   wide16-reads.Learnt,
-  field-at-reads.Asked,
-  field-at-reads.Learnt,
+  field-in-reads.Asked,
+  field-in-reads.Learnt,
   hash-field-below t,
   hash-field.Post,
 ) (hash-table-at t) hash-table.Post hash-table-Inv-loop hash-table-μ-loop
 hash-table-wide16-requires t c κs = search needs
 
-hash-table-field-at-requires : (t : ℕ) → hash-table-lts.Need-field-at-requires (
+hash-table-field-in-requires : (t : ℕ) → hash-table-lts.Need-field-in-requires (
   by-offset-reads.Asked,
   by-offset-reads.Learnt,
   wide16-reads.Asked,
   wide16-reads.Learnt,
-  field-at-reads.Asked,
-  field-at-reads.Learnt,
+  field-in-reads.Asked,
+  field-in-reads.Learnt,
   hash-field-below t,
   hash-field.Post,
 ) (hash-table-at t) hash-table.Post hash-table-Inv-loop hash-table-μ-loop
-hash-table-field-at-requires t c κs = omega arith
+hash-table-field-in-requires t c κs =
+    let l = c .before .before .loop in
+    let by = c .before .before .before .before .by-offset .ensures in
+    rw (c .wide16 .ensures .0) (placed _ _ _ (l .k) _ (l .inv .1) (omega arith) (omega arith) (by .2))
 
 hash-table-sub-hash-field : (t : ℕ) → hash-table-lts.Need-sub-hash-field (
   by-offset-reads.Asked,
   by-offset-reads.Learnt,
   wide16-reads.Asked,
   wide16-reads.Learnt,
-  field-at-reads.Asked,
-  field-at-reads.Learnt,
+  field-in-reads.Asked,
+  field-in-reads.Learnt,
   hash-field-below t,
   hash-field.Post,
 ) (hash-table-at t) hash-table.Post hash-table-Inv-loop hash-table-μ-loop
@@ -288,8 +292,8 @@ hash-table-hash-field-requires : (t : ℕ) → hash-table-lts.Need-hash-field-re
   by-offset-reads.Learnt,
   wide16-reads.Asked,
   wide16-reads.Learnt,
-  field-at-reads.Asked,
-  field-at-reads.Learnt,
+  field-in-reads.Asked,
+  field-in-reads.Learnt,
   hash-field-below t,
   hash-field.Post,
 ) (hash-table-at t) hash-table.Post hash-table-Inv-loop hash-table-μ-loop
@@ -300,8 +304,8 @@ hash-table-enum-known-sum : (t : ℕ) → hash-table-lts.Need-enum-known-sum (
   by-offset-reads.Learnt,
   wide16-reads.Asked,
   wide16-reads.Learnt,
-  field-at-reads.Asked,
-  field-at-reads.Learnt,
+  field-in-reads.Asked,
+  field-in-reads.Learnt,
   hash-field-below t,
   hash-field.Post,
 ) (hash-table-at t) hash-table.Post hash-table-Inv-loop hash-table-μ-loop
@@ -312,8 +316,8 @@ hash-table-enum-known-refusal : (t : ℕ) → hash-table-lts.Need-enum-known-ref
   by-offset-reads.Learnt,
   wide16-reads.Asked,
   wide16-reads.Learnt,
-  field-at-reads.Asked,
-  field-at-reads.Learnt,
+  field-in-reads.Asked,
+  field-in-reads.Learnt,
   hash-field-below t,
   hash-field.Post,
 ) (hash-table-at t) hash-table.Post hash-table-Inv-loop hash-table-μ-loop
@@ -324,8 +328,8 @@ hash-table-returns-2 : (t : ℕ) → hash-table-lts.Need-returns-2 (
   by-offset-reads.Learnt,
   wide16-reads.Asked,
   wide16-reads.Learnt,
-  field-at-reads.Asked,
-  field-at-reads.Learnt,
+  field-in-reads.Asked,
+  field-in-reads.Learnt,
   hash-field-below t,
   hash-field.Post,
 ) (hash-table-at t) hash-table.Post hash-table-Inv-loop hash-table-μ-loop
@@ -333,15 +337,15 @@ hash-table-returns-2 t c =
     let a = c .before .before .before .before .before .before .before .before .before .before .before .before .before .before .before .args in
     let l = c .before .before .before .before .before .before .before .loop in
     walk-stops (a .cat .now) (a .l .now) (a .budget) _ (fieldAt (a .table .now)) (l .k) _ _ (l .fp) (l .visits) _ (l .inv .3) (l .inv .1) (omega arith) _
-    (sym (c .before .refusal .given .1) ∙ c .before .before .before .hash-field .ensures ∙ rw (c .before .before .before .before .field-at .ensures, c .before .before .before .before .before .wide16 .ensures .0))
+    (sym (c .before .refusal .given .1) ∙ c .before .before .before .hash-field .ensures ∙ rw (c .before .before .before .before .field-in .ensures, c .before .before .before .before .before .wide16 .ensures .0))
 
 hash-table-add-k : (t : ℕ) → hash-table-lts.Need-add-k (
   by-offset-reads.Asked,
   by-offset-reads.Learnt,
   wide16-reads.Asked,
   wide16-reads.Learnt,
-  field-at-reads.Asked,
-  field-at-reads.Learnt,
+  field-in-reads.Asked,
+  field-in-reads.Learnt,
   hash-field-below t,
   hash-field.Post,
 ) (hash-table-at t) hash-table.Post hash-table-Inv-loop hash-table-μ-loop
@@ -352,8 +356,8 @@ hash-table-loop-less : (t : ℕ) → hash-table-lts.Need-loop-less (
   by-offset-reads.Learnt,
   wide16-reads.Asked,
   wide16-reads.Learnt,
-  field-at-reads.Asked,
-  field-at-reads.Learnt,
+  field-in-reads.Asked,
+  field-in-reads.Learnt,
   hash-field-below t,
   hash-field.Post,
 ) (hash-table-at t) hash-table.Post hash-table-Inv-loop hash-table-μ-loop
@@ -364,8 +368,8 @@ hash-table-loop-again : (t : ℕ) → hash-table-lts.Need-loop-again (
   by-offset-reads.Learnt,
   wide16-reads.Asked,
   wide16-reads.Learnt,
-  field-at-reads.Asked,
-  field-at-reads.Learnt,
+  field-in-reads.Asked,
+  field-in-reads.Learnt,
   hash-field-below t,
   hash-field.Post,
 ) (hash-table-at t) hash-table.Post hash-table-Inv-loop hash-table-μ-loop
@@ -376,7 +380,7 @@ hash-table-loop-again t c =
       l .inv .1,
       l .inv .2,
       walk-goes (a .cat .now) (a .l .now) (a .budget) _ (fieldAt (a .table .now)) (l .k) _ _ (l .fp) (l .visits) _ (l .inv .3) (l .inv .1) (omega arith) _ _
-          (sym (c .before .sum .given .1) ∙ c .before .before .before .hash-field .ensures ∙ rw (c .before .before .before .before .field-at .ensures, c .before .before .before .before .before .wide16 .ensures .0)),
+          (sym (c .before .sum .given .1) ∙ c .before .before .before .hash-field .ensures ∙ rw (c .before .before .before .before .field-in .ensures, c .before .before .before .before .before .wide16 .ensures .0)),
     )
 
 hash-table-returns-3 : (t : ℕ) → hash-table-lts.Need-returns-3 (
@@ -384,8 +388,8 @@ hash-table-returns-3 : (t : ℕ) → hash-table-lts.Need-returns-3 (
   by-offset-reads.Learnt,
   wide16-reads.Asked,
   wide16-reads.Learnt,
-  field-at-reads.Asked,
-  field-at-reads.Learnt,
+  field-in-reads.Asked,
+  field-in-reads.Learnt,
   hash-field-below t,
   hash-field.Post,
 ) (hash-table-at t) hash-table.Post hash-table-Inv-loop hash-table-μ-loop
@@ -403,7 +407,7 @@ pub +hash-field+hash-table-spec : {M : Type 1} → statement M
   hash-table-below t,
   hash-table.Post,
 )
-    (hash-field-at t)
+    (hash-field-in t)
     hash-field.Post
     (hash-field-visited-requires t)
     (hash-field-enum-known-sum t)
@@ -419,8 +423,8 @@ pub +hash-field+hash-table-spec : {M : Type 1} → statement M
       by-offset-reads.Learnt,
       wide16-reads.Asked,
       wide16-reads.Learnt,
-      field-at-reads.Asked,
-      field-at-reads.Learnt,
+      field-in-reads.Asked,
+      field-in-reads.Learnt,
       hash-field-below t,
       hash-field.Post,
     )
@@ -435,7 +439,7 @@ pub +hash-field+hash-table-spec : {M : Type 1} → statement M
     (hash-table-mul-wide16 t)
     (hash-table-array-read-wide16 t)
     (hash-table-wide16-requires t)
-    (hash-table-field-at-requires t)
+    (hash-table-field-in-requires t)
     (hash-table-sub-hash-field t)
     (hash-table-hash-field-requires t)
     (hash-table-enum-known-sum t)
