@@ -12,7 +12,14 @@ pub use planner::select::Selected;
 pub const UNPLANNED: u8 = 254;
 
 // The selection of dbn's Upgrader::new: which target record the source's record k is upgraded to.
-pub fn select(cat: &[u8], source: &[u8], k: usize, target: &[u8], wanted: bool, schema: u16) -> Selected
+pub fn select(
+    cat: &[u8],
+    source: &[u8],
+    k: usize,
+    target: &[u8],
+    wanted: bool,
+    schema: u16,
+) -> Selected
     ensures { λ r. ⌜ r ≡ selectedOf (now (cat .entry)) (now (source .entry)) k (now (target .entry)) wanted schema ⌝ }
 {
     planner::select::select(cat, source, k, target, wanted, schema)

@@ -1,0 +1,1 @@
+// Laws only: what the public calls leave of a target, by the field rule.
