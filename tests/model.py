@@ -209,6 +209,26 @@ def crc(content):
     return fp
 
 
+def shifted(b):
+    for _ in range(8):
+        b = (b >> 1) ^ (EMPTY_SUM if b & 1 else 0)
+    return b
+
+
+ENTRIES = [shifted(b) for b in range(256)]
+
+
+def quick_crc(content):
+    """the same, a byte at a time: a slot has six thousand bytes"""
+    fp = EMPTY_SUM
+    for b in content:
+        fp = (fp >> 8) ^ ENTRIES[(fp ^ b) & 255]
+    return fp
+
+
+assert quick_crc(bytes(range(256))) == crc(bytes(range(256)))
+
+
 class Stopped(Exception):
     pass
 

@@ -2,7 +2,7 @@
 import re, struct
 from collections import namedtuple
 
-from model import EMPTY_SUM, crc
+from model import quick_crc
 
 MAX_BYTES, MAX_HEADER, MAX_STEPS = 4096, 64, 128
 SLOT, STEPS_FROM, BODY_FROM = 6160, 16, 2064
@@ -107,28 +107,8 @@ def plan_in(slot):
 
 # ---- answers: the sum of all that is lent, and how much was stored
 
-def shifted(b):
-    for _ in range(8):
-        b = (b >> 1) ^ (EMPTY_SUM if b & 1 else 0)
-    return b
-
-
-ENTRIES = [shifted(b) for b in range(256)]
-
-
-def quick(content):
-    """the sum, a byte at a time"""
-    fp = EMPTY_SUM
-    for b in content:
-        fp = (fp >> 8) ^ ENTRIES[(fp ^ b) & 255]
-    return fp
-
-
-assert quick(bytes(range(256))) == crc(bytes(range(256)))
-
-
 def told(lent, n):
-    return f"{quick(lent):016x} {n}"
+    return f"{quick_crc(lent):016x} {n}"
 
 
 def write_text(room, slot):

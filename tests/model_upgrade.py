@@ -111,21 +111,8 @@ def upgraded(plans, unplanned, rtype, headers, record, stated, target):
 
 # ---- lines
 
-def shifted(fp):
-    for _ in range(8):
-        fp = (fp >> 1) ^ (EMPTY_SUM if fp & 1 else 0)
-    return fp
-
-
-TABLE = [shifted(b) for b in range(256)]
-
-
 def sum_of(content):
-    """as sum_text, by a table: a slot has six thousand bytes"""
-    fp = EMPTY_SUM
-    for b in content:
-        fp = (fp >> 8) ^ TABLE[(fp ^ b) & 255]
-    return f"{fp:016x}"
+    return f"{quick_crc(content):016x}"
 
 
 class Slots:
