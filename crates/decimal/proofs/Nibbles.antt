@@ -22,9 +22,6 @@ unfolding hex
 hex-length [] = refl
 hex-length (b ∷ bs) = rw (hex-length bs) (omega arith)
 
-pub window-length : (s : List ℕ) (from n : ℕ) → from + n ≤ length s → length (window s from n) ≡ n
-window-length s from n h = simp (length-take, length-drop) (omega arith)
-
 -- ---- turns: what is left gives what the whole does
 
 module _ (s : List ℕ) (from n i : ℕ) (h : i < n) (fits : from + n ≤ length s) where

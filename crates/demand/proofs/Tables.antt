@@ -10,7 +10,6 @@ use lib.ListN.{length}
 use Rattle.limits.specs.Limits.{maxBytes}
 use Rattle.lent.specs.Bytes.{byteAt}
 use Rattle.lent.specs.Scan.{gather, every}
-use Rattle.lent.proofs.Scan.{both}
 use Rattle.field.specs.Field.{fieldAt, fieldsOf, endOf}
 use Rattle.field.specs.declared.FieldDef.{FieldDef}
 use Rattle.table.specs.Table.{inBounds, widthOk}
@@ -19,7 +18,7 @@ use Rattle.layout.specs.Size.{lastEnd}
 use Rattle.plan.specs.Rule.{wantAt, wants}
 use Rattle.rule.specs.Body.{defs}
 use Rattle.demand.specs.Demand.{Bytes, Admitted, afterHeader}
-use Rattle.slot.proofs.Checking.{gathered-length}
+use Rattle.lent.proofs.Scan.{both, gathered-length}
 use Rattle.demand.proofs.Right.{admitted}
 use Rattle.demand.proofs.Ascending.{placed}
 

@@ -35,7 +35,9 @@ fn planned(slot: &[u8], src: &[u8], dst: &mut [u8]) -> Upgraded
     if dst.len() < size {
         return Upgraded::Refused(Refusal::NoRoom);
     }
-    if !check::is_ok(slot) {
+    // all of the slot, as a slice made here: one handed on would be waited for
+    let n = slot.len();
+    if !check::is_ok(&slot[..n]) {
         return Upgraded::Refused(Refusal::BadPlan);
     }
     interpreter::apply(slot, src, dst);

@@ -1,15 +1,14 @@
 -- What a slot that holds a plan gives its readers. Assumes nothing.
-use mathlib.Core.Path.{_≡_, refl, sym, ap, _∙_}
+use mathlib.Core.Path.{_≡_}
 use mathlib.Core.Bool.{Bool, true, _&&_}
 use mathlib.Core.List.{List}
-use Prim.Native.Nat.{ℕ, zero, suc, _+_, _*_, _≤_}
-use native.Mathlib.Omega.{arith}
+use Prim.Native.Nat.{ℕ, _≤_}
 use lib.Dec.{leb, eqb}
 use lib.ListN.{length}
 use borrow.Author.Tests.{eqb-true, leb-true}
 use Rattle.limits.specs.Limits.{maxBytes, maxHeader, maxSteps}
-use Rattle.lent.specs.Scan.{gather, every, places}
-use Rattle.lent.proofs.Scan.{both}
+use Rattle.lent.specs.Scan.{every, places}
+use Rattle.lent.proofs.Scan.{both, gathered-length}
 use Rattle.step.specs.Step.{stepsOk}
 use Rattle.step.specs.Packed.{flagsOk, stepAt, stepsAt}
 use Rattle.slot.specs.Plan.{Plan, rtypesOk, sizesOk, bodyOk, planOk}
@@ -21,11 +20,6 @@ pub record Kept (slot : List ℕ) : Type 0 where
   pub header : headerIn slot ≤ sizeIn slot
   pub count : countIn slot ≤ maxSteps
   pub steps : stepsOk (headerIn slot) (sizeIn slot) (stepsAt slot stepsFrom (countIn slot)) ≡ true
-
-gathered-length : {A : Type 0} (read : ℕ → A) (step at n : ℕ) → length (gather read step at n) ≡ n
-unfolding gather
-gathered-length read step at zero = refl
-gathered-length read step at (suc n) = ap suc (gathered-length read step (at + step) n)
 
 abbrev listOk : Plan → Bool
 listOk p = leb (length (p .steps)) maxSteps && stepsOk (p .header) (p .size) (p .steps)

@@ -5,16 +5,18 @@ use mathlib.Core.List.{List, [], _∷_}
 use Prim.Native.Nat.{ℕ, zero, suc, _+_, _-_, _*_, _≤_, _<_}
 use native.Mathlib.Omega.{arith}
 use lib.Dec.{leb, ltb, eqb}
-use lib.ListN.{length}
-use lib.Seq.{sets}
+use lib.ListN.{length, drop, length-drop}
+use lib.Seq.{sets, length-take-le}
 use borrow.Author.Tests.{le-leb, lt-leb, leb-true}
 use Rattle.lent.specs.Bytes.{window}
 use Rattle.lent.specs.Scan.{gather, every}
+use Rattle.lent.proofs.Bytes.{length-bytesOf}
 use Rattle.lent.proofs.Scan.{turn, none, both}
 use Rattle.limits.specs.Limits.{maxBytes}
 use Rattle.catalogue.specs.Catalogue.{isWidth}
-use Rattle.step.specs.Step.{endOf, stepOk, widthsOk, within, stepsOk}
+use Rattle.step.specs.Step.{sourceOf, takes, gives, endOf, stepOk, widthsOk, within, stepsOk}
 use Rattle.step.specs.Packed.{stepAt, stepsAt}
+use Rattle.step.specs.declared.Op.{Op}
 use Rattle.step.specs.declared.Op.the-variants.{Copy, Int}
 use Rattle.step.specs.declared.Step.{Step}
 use Rattle.interpreter.specs.Run.{carried, fits, runStep, run}
@@ -47,6 +49,13 @@ module _ (s : Step) (source target n m : ℕ) (signed marked : Bool) (e : s .op 
     pub int-skips : length src < a + k → dst ≡ runStep src s dst
     unfolding runStep
     int-skips h = rw (e, ← ea, ← ek, lt-leb (a + k) (length src) h)
+
+-- a step that is not skipped carries as many bytes as it gives
+pub length-carried : (src : List ℕ) (s : Step) → sourceOf s + takes s ≤ length src → length (carried src (s .op)) ≡ gives s
+length-carried src s h = go (s .op) h where
+  go : (op : Op) → sourceOf (record { op = op }) + takes (record { op = op }) ≤ length src → length (carried src op) ≡ gives (record { op = op })
+  go (Copy source target size) h = length-take-le size (drop source src) (omega (arith, length-drop source src))
+  go (Int source target from to signed marked) h = length-bytesOf to _
 
 -- ---- a turn over the steps of a slot
 module _ (slot : List ℕ) (at n : ℕ) where

@@ -6,8 +6,8 @@ ghost use lib.ListN.{length};
 ghost use lib.Seq.{sets};
 ghost use Rattle.catalogue.specs.Catalogue.{isWidth};
 ghost use Rattle.step.specs.declared.Op.the-variants.{Int};
-ghost use Rattle.slot.specs.Slot.{sizeIn, planIn, slotOk};
-ghost use Rattle.interpreter.specs.Run.{carried, fits, runStep, run, upgraded};
+ghost use Rattle.slot.specs.Slot.{headerIn, sizeIn, planIn, slotOk};
+ghost use Rattle.interpreter.specs.Run.{carried, reaches, fits, runStep, run, upgraded, coveredTo, bodyAfter};
 use slot::check::number_at;
 use step::Op;
 use step::Step;
@@ -68,14 +68,37 @@ fn run_step(step: Step, src: &[u8], dst: &mut [u8])
     }
 }
 
-// The default body of a slot, behind the header.
-pub fn lay_body(slot: &[u8], dst: &mut [u8])
-    requires { ⌜ (slotOk (now slot) ≡ true) × (sizeIn (now slot) ≤ length (now dst)) ⌝ }
-    ensures { λ r. ⌜ now (dst .exit) ≡ sets (now (dst .entry)) (planIn (now (slot .entry)) .header) (planIn (now (slot .entry)) .body) ⌝ }
+// Does the record reach the end of what the step reads?
+fn reaches(step: Step, src: &[u8]) -> bool
+    ensures { λ r. ⌜ r ≡ reaches (now (src .entry)) step ⌝ }
+{
+    step::source_end(step) <= src.len()
+}
+
+// Where the first step leaves the body to be laid from: bytes below it would be laid in vain.
+fn covered_to(slot: &[u8], src: &[u8]) -> usize
+    requires { ⌜ slotOk (now slot) ≡ true ⌝ }
+    ensures { λ r. ⌜ r ≡ coveredTo (now (src .entry)) (headerIn (now (slot .entry))) (planIn (now (slot .entry)) .steps) ⌝ }
 {
     let header = number_at(slot, 6);
-    let n = number_at(slot, 10) - header;
-    lent::store::copy(slot, slot::BODY_FROM, dst, header, n);
+    if number_at(slot, 12) == 0 {
+        return header;
+    }
+    let step = step::packed::step_in(slot, slot::STEPS_FROM);
+    if (step::target_of(step) == header) & reaches(step, src) {
+        return step::end_of(step);
+    }
+    header
+}
+
+// The default body of a slot, from a place of the record on.
+pub fn lay_body(slot: &[u8], from: usize, dst: &mut [u8])
+    requires { ⌜ (slotOk (now slot) ≡ true) × (headerIn (now slot) ≤ from) × (from ≤ sizeIn (now slot)) × (sizeIn (now slot) ≤ length (now dst)) ⌝ }
+    ensures { λ r. ⌜ now (dst .exit) ≡ sets (now (dst .entry)) from (bodyAfter (now (slot .entry)) from) ⌝ }
+{
+    let header = number_at(slot, 6);
+    let n = number_at(slot, 10) - from;
+    lent::store::copy(slot, slot::BODY_FROM + (from - header), dst, from, n);
 }
 
 // The steps of a slot, one after the other.
@@ -98,6 +121,6 @@ pub fn apply(slot: &[u8], src: &[u8], dst: &mut [u8])
     requires { ⌜ (slotOk (now slot) ≡ true) × (sizeIn (now slot) ≤ length (now dst)) ⌝ }
     ensures { λ r. ⌜ now (dst .exit) ≡ upgraded (planIn (now (slot .entry))) (now (src .entry)) (now (dst .entry)) ⌝ }
 {
-    lay_body(slot, dst);
+    lay_body(slot, covered_to(slot, src), dst);
     run_steps(slot, src, dst)
 }

@@ -1,7 +1,7 @@
 -- Laws of reads. Assumes nothing.
 use mathlib.Core.Path.{_≡_, refl, sym, ap, _∙_}
 use mathlib.Core.Bool.{Bool, true, false, cond}
-use mathlib.Core.List.{List, [], _++_}
+use mathlib.Core.List.{List, [], _∷_, _++_}
 use Prim.Native.Nat.{ℕ, zero, suc, _+_, _-_, _*_, _/_, _%_, _^_, _≤_, _<_}
 use native.Mathlib.Nat.{mul-assoc, pow-succ'}
 use native.Mathlib.Omega.{arith}
@@ -39,6 +39,10 @@ bytes-add (suc n) m low high h =
     let ih = bytes-add n m (low / 256) high (omega arith) in
     rw (e, p, first, rest, ih)
 
+pub length-bytesOf : (n v : ℕ) → length (bytesOf n v) ≡ n
+length-bytesOf zero v = refl
+length-bytesOf (suc n) v = ap suc (length-bytesOf n _)
+
 -- a window's test without the sum of its start and its size, which could wrap
 pub fits-by-difference : (at n k : ℕ) → n ≤ k → leb at (k - n) ≡ leb (at + n) k
 fits-by-difference at n k h = go (leb at (k - n)) (leb-true at (k - n)) (leb-false at (k - n)) where
@@ -64,6 +68,9 @@ part-length s at n = go (hasWindow s at n) where
   go : (p : Bool) → length (cond p (window s at n) []) ≤ n
   go true = omega (arith, length-take n (drop at s))
   go false = omega arith
+
+pub window-length : (s : List ℕ) (from n : ℕ) → from + n ≤ length s → length (window s from n) ≡ n
+window-length s from n h = simp (length-take, length-drop) (omega arith)
 
 -- a window is the part where it lies inside, what there is of it where it passes the end, and nothing past the end
 pub window-in : (s : List ℕ) (at n : ℕ) → hasWindow s at n ≡ true → partOf s at n ≡ window s at n

@@ -9,6 +9,12 @@ use lib.Seq.{drop-cons, getD-take, length-take-le}
 use native.Mathlib.Omega.{arith}
 use Rattle.lent.specs.Scan.{gather, every, some, first, last, alike, tally}
 
+-- as many as there are places
+pub gathered-length : {A : Type 0} (read : ℕ → A) (step at n : ℕ) → length (gather read step at n) ≡ n
+unfolding gather
+gathered-length read step at zero = refl
+gathered-length read step at (suc n) = ap suc (gathered-length read step (at + step) n)
+
 module _ {A : Type 0} (read : ℕ → A) (step at n : ℕ) where
   -- something is left: the first, and the rest
   pub turn : 0 < n → gather read step at n ≡ read at ∷ gather read step (at + step) (n - 1)

@@ -1,6 +1,7 @@
 // Reads of lent bytes that need no promise of the caller: past the end there is a zero, and a part that does not lie
 // inside is empty.
 pub mod store;
+pub mod words;
 
 ghost use mathlib.Core.Path.{_≡_};
 ghost use Prim.Native.Nat.{_+_, _*_, _<_, _≤_, min, max};

@@ -4,6 +4,7 @@ ghost use Prim.Native.Nat.{_+_, _/_, _%_, _≤_};
 ghost use lib.ListN.{length, replicate};
 ghost use lib.Seq.{sets};
 ghost use Rattle.lent.specs.Bytes.{bytesOf, window};
+use crate::words;
 
 pub fn low(x: u16) -> u8
     ensures { λ r. ⌜ r ≡ x % 256 ⌝ }
@@ -17,8 +18,8 @@ pub fn high(x: u16) -> u8
     (x / 256) as u8
 }
 
-// n bytes of s from `from` on, stored from `to` on.
-pub fn copy(s: &[u8], from: usize, d: &mut [u8], to: usize, n: usize)
+// Fewer than eight bytes, one by one.
+fn few(s: &[u8], from: usize, d: &mut [u8], to: usize, n: usize)
     requires { ⌜ (from + n ≤ length (now s)) × (to + n ≤ length (now d)) ⌝ }
     ensures { λ r. ⌜ now (d .exit) ≡ sets (now (d .entry)) to (window (now (s .entry)) from n) ⌝ }
 {
@@ -27,6 +28,33 @@ pub fn copy(s: &[u8], from: usize, d: &mut [u8], to: usize, n: usize)
         d[to + i] = s[from + i];
         i += 1;
     }
+}
+
+// Eight bytes at once.
+fn word(s: &[u8], from: usize, d: &mut [u8], to: usize)
+    requires { ⌜ (from + 8 ≤ length (now s)) × (to + 8 ≤ length (now d)) ⌝ }
+    ensures { λ r. ⌜ now (d .exit) ≡ sets (now (d .entry)) to (window (now (s .entry)) from 8) ⌝ }
+{
+    let v = words::eight_in(s, from);
+    words::store_eight(d, to, v as u64);
+}
+
+// n bytes of s from `from` on, stored from `to` on. The last word may lie over the one before: no bytes are left for a loop of their own.
+pub fn copy(s: &[u8], from: usize, d: &mut [u8], to: usize, n: usize)
+    requires { ⌜ (from + n ≤ length (now s)) × (to + n ≤ length (now d)) ⌝ }
+    ensures { λ r. ⌜ now (d .exit) ≡ sets (now (d .entry)) to (window (now (s .entry)) from n) ⌝ }
+{
+    if n < 8 {
+        few(s, from, d, to, n);
+        return;
+    }
+    let last = n - 8;
+    let mut i = 0;
+    while i < last {
+        word(s, from + i, d, to + i);
+        i += 8;
+    }
+    word(s, from + last, d, to + last);
 }
 
 // n zeros from `at` on.

@@ -15,7 +15,8 @@ use Rattle.slot.specs.Slot.{slotSize, bodyFrom, stepsFrom, headerIn, sizeIn, co
 use Rattle.decimal.specs.Put.{Put}
 use Rattle.decimal.specs.Hex.{hex}
 use Rattle.decimal.proofs.Puts.{put-start}
-use Rattle.decimal.proofs.Nibbles.{hex-length, window-length}
+use Rattle.lent.proofs.Bytes.{window-length}
+use Rattle.decimal.proofs.Nibbles.{hex-length}
 use Rattle.plan_text.specs.Text.{newline, bodyLine, stepLine, stepLines}
 use Rattle.plan_text.specs.Held.{Held, tabbed, headIn}
 use Rattle.plan_text.specs.Writing.{textIn}

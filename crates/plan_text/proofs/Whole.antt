@@ -11,24 +11,19 @@ use borrow.Author.Tests.{eqb-true, leb-true, le-leb, lt-leb}
 use Rattle.limits.specs.Limits.{maxBytes, maxSteps}
 use Rattle.limits.specs.declared.refusal.Refusal.the-variants.{BadPlan, NoRoom}
 use Rattle.lent.specs.Bytes.{window}
-use Rattle.lent.proofs.Scan.{both}
+use Rattle.lent.proofs.Scan.{both, gathered-length}
 use Rattle.lent.specs.Scan.{gather}
 use Rattle.step.specs.Packed.{stepAt, stepsAt}
 use Rattle.step.specs.Step.{stepsOk}
 use Rattle.slot.specs.Plan.{Plan, rtypesOk, sizesOk, bodyOk, planOk}
 use Rattle.slot.specs.Slot.{slotSize, stepsFrom, bodyFrom, headerIn, sizeIn, countIn, planIn, allFlags, slotOk}
 use Rattle.slot.proofs.Checking.{sizes}
-use Rattle.decimal.proofs.Nibbles.{window-length}
+use Rattle.lent.proofs.Bytes.{window-length}
 use Rattle.plan_text.specs.Text.{headLine, bodyLine, stepLines, textOf}
 use Rattle.plan_text.specs.Held.{Held, headIn}
 use Rattle.plan_text.specs.Writing.{textIn, writtenOf, afterWriting}
 use Rattle.plan_text.specs.declared.writer.Written.the-variants.{Length, Refused}
 use Rattle.plan_text.proofs.Laid.{body-length}
-
-gather-length : {A : Type 0} (read : ℕ → A) (step at n : ℕ) → length (gather read step at n) ≡ n
-unfolding gather
-gather-length read step at zero = refl
-gather-length read step at (suc n) = ap suc (gather-length read step (at + step) n)
 
 abbrev pub bodyIn : List ℕ → List ℕ
 bodyIn slot = window slot bodyFrom (sizeIn slot - headerIn slot)
@@ -38,7 +33,7 @@ stepsIn slot = stepLines (stepsAt slot stepsFrom (countIn slot))
 
 pub text-parts : (slot : List ℕ) → textIn slot ≡ headIn slot ++ (bodyLine (bodyIn slot) ++ stepsIn slot)
 unfolding textOf
-text-parts slot = rw (gather-length (stepAt slot) 16 stepsFrom (countIn slot))
+text-parts slot = rw (gathered-length (stepAt slot) 16 stepsFrom (countIn slot))
 
 pub text-length : (slot : List ℕ) → Held slot → length (textIn slot) ≡ length (headIn slot) + (length (bodyLine (bodyIn slot)) + length (stepsIn slot))
 text-length slot h =
@@ -68,7 +63,7 @@ held slot ok =
     let s = sizes p (both (rtypesOk p) (sizesOk p) (z .0) .1) in
     let b = both (bodyOk p) (leb (length (p .steps)) maxSteps && stepsOk (p .header) (p .size) (p .steps)) (z .1) in
     let f = leb-true (length (p .steps)) maxSteps (both (leb (length (p .steps)) maxSteps) (stepsOk (p .header) (p .size) (p .steps)) (b .1) .0) in
-    let l = gather-length (stepAt slot) 16 stepsFrom (countIn slot) in
+    let l = gathered-length (stepAt slot) 16 stepsFrom (countIn slot) in
     record { long = k .0; few = omega arith; most = s .0; headed = s .1 }
 
 -- ---- the writer's answers

@@ -8,16 +8,17 @@ use mathlib.Core.Bool.{Bool, true, false, cond, _&&_}
 use mathlib.Core.List.{List, [], _∷_}
 use borrow.Author.Tests.{leb-true, ltb-true, le-leb, lt-leb, lt-ltb, le-ltb}
 use lib.Dec.{leb, ltb}
-use lib.ListN.{length, set, drop, length-drop}
-use lib.Seq.{sets, length-sets, length-take-le, getD-set-other}
-use Rattle.lent.specs.Bytes.{byteAt, bytesOf}
+use lib.ListN.{length}
+use lib.Seq.{sets, length-sets}
+use Rattle.lent.specs.Bytes.{byteAt}
 use Rattle.lent.proofs.Scan.{both}
-use Rattle.lent.proofs.Stored.{get-below, get-in}
+use Rattle.lent.proofs.Stored.{get-below, get-in, get-past}
 use Rattle.step.specs.Step.{sourceOf, takes, targetOf, gives, endOf, stepOk, within, stepsOk}
 use Rattle.step.specs.declared.Op.{Op}
 use Rattle.step.specs.declared.Op.the-variants.{Copy, Int}
 use Rattle.step.specs.declared.Step.{Step}
 use Rattle.interpreter.specs.Run.{carried, reaches, runStep, run}
+use Rattle.interpreter.proofs.Runs.{length-carried}
 use Rattle.rule.specs.Bytewise.{writes, stepByte, runByte, bytewise}
 
 -- ---- the byte of a list that was changed byte by byte
@@ -36,10 +37,6 @@ byte-bytewise f h (x ∷ xs) (suc i) l =
 
 -- ---- the byte of a list that bytes were stored in
 
-get-above : (vs l : List ℕ) (i j : ℕ) → i + length vs ≤ j → byteAt (sets l i vs) j ≡ byteAt l j
-get-above [] l i j h = refl
-get-above (v ∷ vs) l i j h = get-above vs (set l i v) (suc i) j (omega arith) ∙ getD-set-other l i j v 0 (λ e. omega arith)
-
 pub get : (vs l : List ℕ) (at n j : ℕ) → length vs ≡ n → at + n ≤ length l
     → byteAt (sets l at vs) j ≡ cond (leb at j && ltb j (at + n)) (byteAt vs (j - at)) (byteAt l j)
 get vs l at n j e h =
@@ -48,22 +45,11 @@ get vs l at n j e h =
       | no p ↦ elim (decLt j (at + n)) [
         | yes q ↦ rw (le-leb at j (omega arith), lt-ltb j (at + n) q)
             (ap (λ (k : ℕ). byteAt (sets l at vs) k) (omega arith) ∙ get-in vs l at (j - at) (omega arith) (omega arith))
-        | no q ↦ rw (le-leb at j (omega arith), le-ltb j (at + n) (omega arith)) (get-above vs l at j (omega arith))
+        | no q ↦ rw (le-leb at j (omega arith), le-ltb j (at + n) (omega arith)) (get-past vs l at j (omega arith))
       ]
     ]
 
 -- ---- one step
-
-length-bytesOf : (n v : ℕ) → length (bytesOf n v) ≡ n
-length-bytesOf zero v = refl
-length-bytesOf (suc n) v = ap suc (length-bytesOf n _)
-
--- a step that is not skipped carries as many bytes as it gives
-pub length-carried : (src : List ℕ) (s : Step) → sourceOf s + takes s ≤ length src → length (carried src (s .op)) ≡ gives s
-length-carried src s h = go (s .op) h where
-  go : (op : Op) → sourceOf (record { op = op }) + takes (record { op = op }) ≤ length src → length (carried src op) ≡ gives (record { op = op })
-  go (Copy source target size) h = length-take-le size (drop source src) (omega (arith, length-drop source src))
-  go (Int source target from to signed marked) h = length-bytesOf to _
 
 module _ (src : List ℕ) (s : Step) (d : List ℕ) where
   pub step-length : length (runStep src s d) ≡ length d

@@ -11,7 +11,7 @@ use borrow.Author.Tests.{lt-ltb, eq-eqb, ne-eqb, leb-true, leb-false}
 use Rattle.limits.specs.Limits.{maxBytes, maxHeader, maxSteps}
 use Rattle.lent.specs.Bytes.{byteAt, numberAt, window}
 use Rattle.lent.specs.Scan.{gather, every}
-use Rattle.lent.proofs.Scan.{turn, none, both}
+use Rattle.lent.proofs.Scan.{turn, none, both, gathered-length}
 use Rattle.step.specs.Step.{stepOk, within, endOf, stepsOk}
 use Rattle.step.specs.Packed.{stepAt, flagsOk, stepsAt}
 use Rattle.step.specs.declared.Step.{Step}
@@ -72,11 +72,6 @@ bytes-window s at n h i = by (leb (suc i) n) (leb-true (suc i) n) (leb-false (su
 
 small : (s : List ℕ) (at : ℕ) → Bytes s → ltb (numberAt s at 2) 65536 ≡ true
 small s at h = lt-ltb (numberAt s at 2) 65536 (omega (arith, h at, h (at + 1)))
-
-pub gathered-length : {A : Type 0} (read : ℕ → A) (step at n : ℕ) → length (gather read step at n) ≡ n
-unfolding gather
-gathered-length read step at zero = refl
-gathered-length read step at (suc n) = ap suc (gathered-length read step (at + step) n)
 
 -- the record size and the header's place in it, out of all tests of sizes
 pub sizes : (p : Plan) → sizesOk p ≡ true → (p .size ≤ maxBytes) × (p .header ≤ p .size)

@@ -35,6 +35,7 @@ fn numbers_ok(slot: &[u8]) -> bool
     (small & inside) & (number_in(slot, 12) <= limits::MAX_STEPS)
 }
 
+// By branches: rows of comparisons take longer than tests that never fail.
 fn steps_ok(slot: &[u8]) -> bool
     requires { ⌜ (length (now slot) ≡ slotSize) × (countIn (now slot) ≤ maxSteps) ⌝ }
     ensures { λ r. ⌜ r ≡ keeps (now (slot .entry)) stepsFrom (countIn (now (slot .entry))) (headerIn (now (slot .entry))) (sizeIn (now (slot .entry))) ⌝ }
@@ -45,8 +46,13 @@ fn steps_ok(slot: &[u8]) -> bool
     let mut left = number_in(slot, 12);
     while left != 0 {
         let step = step::packed::step_in(slot, at);
-        let fine = step::step_ok(step) & step::within(step, low, size);
-        if !(step::packed::flags_ok(slot, at) & fine) {
+        if !step::packed::flags_ok(slot, at) {
+            return false;
+        }
+        if !step::step_ok(step) {
+            return false;
+        }
+        if !step::within(step, low, size) {
             return false;
         }
         low = step::end_of(step);

@@ -2,9 +2,9 @@
 pub mod packed;
 
 ghost use mathlib.Core.Path.{_≡_};
-ghost use Prim.Native.Nat.{_<_};
+ghost use Prim.Native.Nat.{_+_, _<_};
 ghost use Rattle.catalogue.specs.Catalogue.{isWidth};
-ghost use Rattle.step.specs.Step.{targetOf, endOf, widthsOk, stepOk, within};
+ghost use Rattle.step.specs.Step.{sourceOf, takes, targetOf, endOf, widthsOk, stepOk, within};
 
 pub enum Op {
     Copy {
@@ -72,6 +72,28 @@ pub fn end_of(step: Step) -> usize
             signed: _,
             has_undef_max: _,
         } => lent::wide16(dst_offset) + lent::wide16(dst_size),
+    }
+}
+
+// Where it ends in the source.
+pub fn source_end(step: Step) -> usize
+    ensures { λ r. ⌜ (r ≡ sourceOf step + takes step) × (r < 131072) ⌝ }
+{
+    let op = step.op;
+    match op {
+        Op::Copy {
+            src_offset,
+            dst_offset: _,
+            size,
+        } => lent::wide16(src_offset) + lent::wide16(size),
+        Op::Int {
+            src_offset,
+            dst_offset: _,
+            src_size,
+            dst_size: _,
+            signed: _,
+            has_undef_max: _,
+        } => lent::wide16(src_offset) + lent::wide16(src_size),
     }
 }
 

@@ -5,7 +5,8 @@ use lib.ListN.{length, length-set}
 use lib.Seq.{sets}
 use mathlib.Core.Path.{_≡_, refl}
 use native.Mathlib.Omega.{arith}
-use Rattle.decimal.proofs.Nibbles.{hex-length, put-turn, window-length}
+use Rattle.lent.proofs.Bytes.{window-length}
+use Rattle.decimal.proofs.Nibbles.{hex-length, put-turn}
 use Rattle.decimal.specs.Hex.{glyph, hex}
 use Rattle.lent.specs.Bytes.{window}
 use Rattle.decimal.proofs.hexes.put_hex.Statement.{statement}

@@ -1,6 +1,7 @@
 use denote.Ref.{now}
 use native.Mathlib.Omega.{arith}
-use Rattle.decimal.proofs.Nibbles.{hex-length, window-length}
+use Rattle.lent.proofs.Bytes.{window-length}
+use Rattle.decimal.proofs.Nibbles.{hex-length}
 use Rattle.decimal.proofs.Puts.{put-then}
 use Rattle.lent.specs.Bytes.{window}
 use Rattle.plan_text.proofs.Laid.{body-length}

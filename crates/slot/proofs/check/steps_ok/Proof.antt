@@ -1,12 +1,11 @@
 -- The steps left decide.
 use Prim.Native.Nat.{_*_, _+_, _≤_}
-use borrow.Author.Tests.{not-false, not-true}
-use denote.Ref.{now}
-use mathlib.Core.Path.{_≡_}
-use native.Mathlib.Omega.{arith}
-use Rattle.catalogue.specs.Catalogue.{within}
 use Rattle.slot.proofs.Checking.{keeps-ends, keeps-goes, keeps-stops}
 use Rattle.slot.specs.Slot.{countIn, headerIn, keeps, sizeIn, slotSize, stepsFrom}
+use borrow.Author.Tests.{not-false, not-true}
+use mathlib.Core.Bool.{false, true}
+use mathlib.Core.Path.{_≡_}
+use native.Mathlib.Omega.{arith}
 use Rattle.slot.proofs.check.steps_ok.Statement.{statement}
 use Rattle.slot.proofs.check.steps_ok.Tie as tie
 
@@ -32,20 +31,34 @@ loop-holds c = (omega arith, rw (c .before .before .number-in .ensures .0, c .be
 step-in-requires : tie.Need-step-in-requires Inv-loop μ-loop
 step-in-requires c κs = omega arith
 
-step-ok-requires : tie.Need-step-ok-requires Inv-loop μ-loop
-step-ok-requires c κs = omega arith
-
-within-requires : tie.Need-within-requires Inv-loop μ-loop
-within-requires c κs = omega arith
-
 flags-ok-requires : tie.Need-flags-ok-requires Inv-loop μ-loop
 flags-ok-requires c κs = omega arith
 
 returns : tie.Need-returns Inv-loop μ-loop
 returns c =
-    let a = (c .before .before .before .before .before .before .before .before .before .before .before .args) in let l = (c .before .before .before .before .before .before .loop) in
-    keeps-stops (a .slot .now) (l .at) (l .left) (l .low) (c .before .before .before .before .before .before .before .before .before .number-in .result) _ (l .inv .1) (omega arith)
-    (rw (← c .before .before .before .before .step-in .ensures, ← c .before .before .before .step-ok .ensures, ← c .before .before .within .ensures, ← c .before .flags-ok .ensures) (not-true _ (c .if1 .taken)))
+    let f : c .before .flags-ok .result ≡ false = not-true _ (c .if1 .taken) in
+    keeps-stops (c .before .before .before .before .before .before .before .before .before .args .slot .now) (c .before .before .before .before .loop .at) (c .before .before .before .before .loop .left) (c .before .before .before .before .loop .low) (c .before .before .before .before .before .before .before .number-in .result) _ (c .before .before .before .before .loop .inv .1) (omega arith) (rw (← c .before .flags-ok .ensures, f))
+
+step-ok-requires : tie.Need-step-ok-requires Inv-loop μ-loop
+step-ok-requires c κs = omega arith
+
+returns-2 : tie.Need-returns-2 Inv-loop μ-loop
+returns-2 c =
+    let f : c .before .before .before .flags-ok .result ≡ true = not-false _ (c .before .before .if1 .left) in
+    let o : c .before .step-ok .result ≡ false = not-true _ (c .if2 .taken) in
+    keeps-stops (c .before .before .before .before .before .before .before .before .before .before .before .args .slot .now) (c .before .before .before .before .before .before .loop .at) (c .before .before .before .before .before .before .loop .left) (c .before .before .before .before .before .before .loop .low) (c .before .before .before .before .before .before .before .before .before .number-in .result) _ (c .before .before .before .before .before .before .loop .inv .1) (omega arith)
+    (rw (← c .before .before .before .flags-ok .ensures, f, ← c .before .before .before .before .step-in .ensures, ← c .before .step-ok .ensures, o))
+
+within-requires : tie.Need-within-requires Inv-loop μ-loop
+within-requires c κs = omega arith
+
+returns-3 : tie.Need-returns-3 Inv-loop μ-loop
+returns-3 c =
+    let f : c .before .before .before .before .before .flags-ok .result ≡ true = not-false _ (c .before .before .before .before .if1 .left) in
+    let o : c .before .before .before .step-ok .result ≡ true = not-false _ (c .before .before .if2 .left) in
+    let w : c .before .within .result ≡ false = not-true _ (c .if3 .taken) in
+    keeps-stops (c .before .before .before .before .before .before .before .before .before .before .before .before .before .args .slot .now) (c .before .before .before .before .before .before .before .before .loop .at) (c .before .before .before .before .before .before .before .before .loop .left) (c .before .before .before .before .before .before .before .before .loop .low) (c .before .before .before .before .before .before .before .before .before .before .before .number-in .result) _ (c .before .before .before .before .before .before .before .before .loop .inv .1) (omega arith)
+    (rw (← c .before .before .before .before .before .flags-ok .ensures, f, ← c .before .before .before .before .before .before .step-in .ensures, ← c .before .before .before .step-ok .ensures, o, ← c .before .within .ensures, w))
 
 end-of-requires : tie.Need-end-of-requires Inv-loop μ-loop
 end-of-requires c κs = omega arith
@@ -61,16 +74,17 @@ loop-less c = omega arith
 
 loop-again : tie.Need-loop-again Inv-loop μ-loop
 loop-again c =
-    let a = (c .before .before .before .before .before .before .before .before .before .before .before .before .args) in let l = (c .before .before .before .before .before .before .before .loop) in (
+    let f : c .before .before .before .before .before .before .flags-ok .result ≡ true = not-false _ (c .before .before .before .before .before .if1 .left) in
+    let o : c .before .before .before .before .step-ok .result ≡ true = not-false _ (c .before .before .before .if2 .left) in
+    let w : c .before .before .within .result ≡ true = not-false _ (c .before .if3 .left) in (
       omega arith,
-      rw (c .end-of .ensures .0, c .before .before .before .before .before .step-in .ensures) (keeps-goes (a .slot .now) (l .at) (l .left) (l .low) (c .before .before .before .before .before .before .before .before .before .before .number-in .result) _ (l .inv .1) (omega arith)
-          (rw (← c .before .before .before .before .before .step-in .ensures, ← c .before .before .before .before .step-ok .ensures, ← c .before .before .before .within .ensures, ← c .before .before .flags-ok .ensures) (not-false _ (c .before .if1 .left)))),
+      rw (c .end-of .ensures .0, c .before .before .before .before .before .before .before .step-in .ensures) (keeps-goes (c .before .before .before .before .before .before .before .before .before .before .before .before .before .before .args .slot .now) (c .before .before .before .before .before .before .before .before .before .loop .at) (c .before .before .before .before .before .before .before .before .before .loop .left) (c .before .before .before .before .before .before .before .before .before .loop .low) (c .before .before .before .before .before .before .before .before .before .before .before .before .number-in .result) _ (c .before .before .before .before .before .before .before .before .before .loop .inv .1) (omega arith)
+          (rw (← c .before .before .before .before .before .before .flags-ok .ensures, f, ← c .before .before .before .before .before .before .before .step-in .ensures, ← c .before .before .before .before .step-ok .ensures, o, ← c .before .before .within .ensures, w))),
     )
 
-returns-2 : tie.Need-returns-2 Inv-loop μ-loop
-returns-2 c =
-    let a = (c .before .before .before .before .before .before .args) in let l = (c .before .loop) in
-    keeps-ends (a .slot .now) (l .at) (l .left) (l .low) (c .before .before .before .before .number-in .result) _ (l .inv .1) (omega arith)
+returns-4 : tie.Need-returns-4 Inv-loop μ-loop
+returns-4 c =
+    keeps-ends (c .before .before .before .before .before .before .args .slot .now) (c .before .loop .at) (c .before .loop .left) (c .before .loop .low) (c .before .before .before .before .number-in .result) _ (c .before .loop .inv .1) (omega arith)
 
 pub steps-ok-spec : {M : Type 1} → statement M
 steps-ok-spec =
@@ -83,13 +97,15 @@ steps-ok-spec =
     number-in-requires-3
     loop-holds
     step-in-requires
-    step-ok-requires
-    within-requires
     flags-ok-requires
     returns
+    step-ok-requires
+    returns-2
+    within-requires
+    returns-3
     end-of-requires
     add-at
     sub-left
     loop-less
     loop-again
-    returns-2)
+    returns-4)

@@ -1,8 +1,8 @@
 use borrow.Author.Needs.{needs}
 use denote.Ref.{now}
-use Rattle.mapping.proofs.Widths.{store-add}
-use Rattle.mapping.proofs.width.store_eight.Statement.{statement}
-use Rattle.mapping.proofs.width.store_eight.Tie as tie
+use Rattle.lent.proofs.Stored.{store-add}
+use Rattle.lent.proofs.words.store_eight.Statement.{statement}
+use Rattle.lent.proofs.words.store_eight.Tie as tie
 
 store-four-requires : tie.Need-store-four-requires
 store-four-requires c κs = search needs

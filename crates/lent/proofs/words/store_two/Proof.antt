@@ -2,8 +2,8 @@ use borrow.Author.Needs.{needs}
 use lib.ListN.{length-set}
 use native.Mathlib.Numerals.{add-one}
 use native.Mathlib.Omega.{arith}
-use Rattle.mapping.proofs.width.store_two.Statement.{statement}
-use Rattle.mapping.proofs.width.store_two.Tie as tie
+use Rattle.lent.proofs.words.store_two.Statement.{statement}
+use Rattle.lent.proofs.words.store_two.Tie as tie
 
 cast-d : tie.Need-cast-d
 cast-d c = search needs

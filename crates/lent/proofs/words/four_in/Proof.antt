@@ -2,9 +2,9 @@
 use borrow.Author.Needs.{needs}
 use denote.Ref.{now}
 use native.Mathlib.Omega.{arith}
 use Rattle.lent.proofs.Bytes.{number-add}
-use Rattle.mapping.proofs.width.four_in.Statement.{statement}
-use Rattle.mapping.proofs.width.four_in.Tie as tie
+use Rattle.lent.proofs.words.four_in.Statement.{statement}
+use Rattle.lent.proofs.words.four_in.Tie as tie
 
 two-in-requires : tie.Need-two-in-requires
 two-in-requires c κs = search needs

@@ -2,9 +2,9 @@
 use borrow.Author.Needs.{needs}
 use denote.Ref.{now}
 use native.Mathlib.Omega.{arith}
 use Rattle.lent.proofs.Bytes.{number-add}
-use Rattle.mapping.proofs.width.eight_in.Statement.{statement}
-use Rattle.mapping.proofs.width.eight_in.Tie as tie
+use Rattle.lent.proofs.words.eight_in.Statement.{statement}
+use Rattle.lent.proofs.words.eight_in.Tie as tie
 
 four-in-requires : tie.Need-four-in-requires
 four-in-requires c κs = search needs

@@ -1,8 +1,8 @@
 use borrow.Author.Needs.{needs}
 use denote.Ref.{now}
-use Rattle.mapping.proofs.Widths.{store-add}
-use Rattle.mapping.proofs.width.store_four.Statement.{statement}
-use Rattle.mapping.proofs.width.store_four.Tie as tie
+use Rattle.lent.proofs.Stored.{store-add}
+use Rattle.lent.proofs.words.store_four.Statement.{statement}
+use Rattle.lent.proofs.words.store_four.Tie as tie
 
 store-two-requires : tie.Need-store-two-requires
 store-two-requires c κs = search needs
