@@ -1,13 +1,12 @@
 -- Refusals 7 and 8: the target's header against its fields, and its default body. Fields that count are neither padding nor the header.
 use Prim.Native.Nat.{ℕ, suc, _+_, _-_}
 use mathlib.Core.Bool.{Bool, cond, not, _&&_, _||_}
-use mathlib.Core.List.{List, [], _∷_}
+use mathlib.Core.List.{List}
 use lib.Dec.{leb, ltb, eqb}
-use lib.ListN.{length, replicate}
-use lib.Seq.{sets}
+use lib.ListN.{length}
 use Rattle.limits.specs.Limits.{maxHeader}
 use Rattle.lent.specs.Bytes.{byteAt}
-use Rattle.lent.specs.Scan.{every, some, places}
+use Rattle.lent.specs.Scan.{every, some, first, places}
 use Rattle.field.specs.declared.FieldDef.{FieldDef}
 use Rattle.plan.specs.Rule.{counts, isSigned, Want}
 
@@ -50,14 +49,8 @@ unfoldable pub defaultsOk : List ℕ → ℕ → ℕ → List FieldDef → List 
 defaultsOk cat header size fields wants body =
     eqb (header + length body) size && (gapsZero cat fields header body && every (markHolds cat header body) wants)
 
--- ---- how the gaps are found: with the fields blanked out, all that is left is zero
+-- ---- how the gaps are found: at a byte that is not zero, on from the end of the field that holds it
 
-abbrev pub blank : List ℕ → FieldDef → List ℕ → List ℕ
-blank cat f rest = cond (counts cat f) (sets rest (f .offset) (replicate (f .size) 0)) rest
-
-unfoldable pub blankAll : List ℕ → List FieldDef → List ℕ → List ℕ
-blankAll cat [] rest = rest
-blankAll cat (f ∷ fields) rest = blankAll cat fields (blank cat f rest)
-
-abbrev pub allZero : List ℕ → ℕ → ℕ → Bool
-allZero rest at n = every (λ i. eqb (byteAt rest i) 0) (places 1 at n)
+-- where the field that holds byte i ends, or i where none does
+abbrev pub coverEnd : List ℕ → List FieldDef → ℕ → ℕ
+coverEnd cat fields i = first (λ f. counts cat f && holds f i) (λ f. f .offset + f .size) i fields

@@ -1,16 +1,15 @@
 // The target's header and its default body, before anything is planned: refusals 7 and 8.
 ghost use mathlib.Core.Path.{_≡_};
-ghost use mathlib.Core.Bool.{true, cond};
+ghost use mathlib.Core.Bool.{cond};
 ghost use Prim.Native.Nat.{_+_, _-_, _*_, _≤_, _<_};
 ghost use lib.ListN.{length};
 ghost use Rattle.limits.specs.Limits.{maxBytes, maxFields};
 ghost use Rattle.lent.specs.Scan.{every};
 ghost use Rattle.field.specs.Field.{fieldsOf};
 ghost use Rattle.plan.specs.Rule.{wantAt, wants};
-ghost use Rattle.table.specs.Table.{inBounds};
-ghost use Rattle.defaults.specs.Defaults.{startsAfter, headerOk, gapsZero, isLargest, markHolds, defaultsOk, blankAll, allZero};
+ghost use Rattle.defaults.specs.Defaults.{startsAfter, headerOk, gapsZero, isLargest, markHolds, defaultsOk, coverEnd};
 use field::FieldDef;
-use lent::store;
+use lent::words;
 use plan::rule;
 
 fn starts_after(cat: &[u8], header: usize, f: FieldDef) -> bool
@@ -44,48 +43,50 @@ pub fn header_ok(cat: &[u8], header: usize, size: usize, table: &[u8]) -> bool
     false
 }
 
-// In a copy of the record's bytes, at their own places.
-fn blank_all(cat: &[u8], table: &[u8], rest: &mut [u8])
-    requires { ⌜ (every (inBounds maxBytes) (fieldsOf (now table)) ≡ true) × (maxBytes ≤ length (now rest)) ⌝ }
-    ensures { λ r. ⌜ now (rest .exit) ≡ blankAll (now (cat .entry)) (fieldsOf (now (table .entry))) (now (rest .entry)) ⌝ }
+// Where the field that holds byte i of the record ends, or i where none does.
+fn cover_end(cat: &[u8], table: &[u8], i: usize) -> usize
+    requires { ⌜ i < 65536 ⌝ }
+    ensures { λ r. ⌜ (r ≡ coverEnd (now (cat .entry)) (fieldsOf (now (table .entry))) i) × (r < 131072) ⌝ }
 {
     let mut at = 0;
     let mut left = table.len() / field::SIZE;
-    'next: while left != 0 {
+    while left != 0 {
         let f = field::field_in(table, at);
+        let start = lent::wide16(f.offset);
+        let end = start + lent::wide16(f.size);
+        if rule::counts(cat, f) & ((start <= i) & (i < end)) {
+            return end;
+        }
         at += field::SIZE;
         left -= 1;
-        if !rule::counts(cat, f) {
-            continue 'next;
-        }
-        store::zeros(rest, lent::wide16(f.offset), lent::wide16(f.size));
     }
+    i
 }
 
-fn all_zero(rest: &[u8], from: usize, n: usize) -> bool
-    requires { ⌜ from + n ≤ length (now rest) ⌝ }
-    ensures { λ r. ⌜ r ≡ allZero (now (rest .entry)) from n ⌝ }
-{
-    let mut at = from;
-    let mut left = n;
-    while left != 0 {
-        if rest[at] != 0 {
-            return false;
-        }
-        at += 1;
-        left -= 1;
-    }
-    true
-}
-
+// Zeros are passed over, eight at once where they can be, and so is the rest of a field that holds a byte.
 fn gaps_zero(cat: &[u8], table: &[u8], header: usize, body: &[u8]) -> bool
-    requires { ⌜ (every (inBounds maxBytes) (fieldsOf (now table)) ≡ true) × (header + length (now body) ≤ maxBytes) ⌝ }
+    requires { ⌜ header + length (now body) ≤ maxBytes ⌝ }
     ensures { λ r. ⌜ r ≡ gapsZero (now (cat .entry)) (fieldsOf (now (table .entry))) header (now (body .entry)) ⌝ }
 {
-    let mut rest = [0u8; limits::MAX_BYTES];
-    store::copy(body, 0, &mut rest, header, body.len());
-    blank_all(cat, table, &mut rest);
-    all_zero(&rest, header, body.len())
+    let mut i = 0;
+    'next: while i < body.len() {
+        if 8 <= body.len() - i {
+            if words::eight_in(body, i) == 0 {
+                i += 8;
+                continue 'next;
+            }
+        }
+        if body[i] == 0 {
+            i += 1;
+            continue 'next;
+        }
+        let end = cover_end(cat, table, header + i);
+        if end <= header + i {
+            return false;
+        }
+        i = end - header;
+    }
+    true
 }
 
 // The last byte of a signed integer holds its sign.
@@ -127,6 +128,9 @@ fn mark_holds(cat: &[u8], header: usize, body: &[u8], marks: &[u8], table: &[u8]
     requires { ⌜ at < 65536 ⌝ }
     ensures { λ r. ⌜ r ≡ markHolds (now (cat .entry)) header (now (body .entry)) (wantAt (now (cat .entry)) (now (marks .entry)) (now (table .entry)) at) ⌝ }
 {
+    if lent::byte_at(marks, at / field::SIZE) == 0 {
+        return true;
+    }
     let f = field::field_at(table, at);
     if rule::counts(cat, f) & rule::is_marked(cat, marks, at / field::SIZE, f) {
         let from = past_header(f.offset, header);
@@ -160,7 +164,7 @@ pub fn defaults_ok(
     marks: &[u8],
     body: &[u8],
 ) -> bool
-    requires { ⌜ (header ≤ size) × (size ≤ maxBytes) × (length (now table) ≤ 16 * maxFields) × (every (inBounds maxBytes) (fieldsOf (now table)) ≡ true) ⌝ }
+    requires { ⌜ (header ≤ size) × (size ≤ maxBytes) × (length (now table) ≤ 16 * maxFields) ⌝ }
     ensures { λ r. ⌜ r ≡ defaultsOk (now (cat .entry)) header size (fieldsOf (now (table .entry))) (wants (now (cat .entry)) (now (marks .entry)) (now (table .entry))) (now (body .entry)) ⌝ }
 {
     if body.len() != size - header {

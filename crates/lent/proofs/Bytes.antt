@@ -24,6 +24,12 @@ number-add s at (suc n) m =
     let ih = number-add s (at + 1) n m in
     rw (e, f, g) (omega arith)
 
+-- bytes that hold zero are zero
+pub number-zero : (s : List ℕ) (at n : ℕ) → numberAt s at n ≡ 0 → (j : ℕ) → j < n → byteAt s (at + j) ≡ 0
+number-zero s at zero e j h = absurd (let z : ⊥ = omega arith in z)
+number-zero s at (suc n) e zero h = let f : at + 0 ≡ at = omega arith in rw f (omega arith)
+number-zero s at (suc n) e (suc j) h = let f : at + suc j ≡ (at + 1) + j = omega arith in rw f (number-zero s (at + 1) n (omega arith) j (omega arith))
+
 -- and the bytes of such a number are those of the two
 pub bytes-add : (n m low high : ℕ) → low < 256 ^ n → bytesOf (n + m) (low + 256 ^ n * high) ≡ bytesOf n low ++ bytesOf m high
 bytes-add zero m low high h =

@@ -7,7 +7,7 @@ use native.Mathlib.Nat.{not-suc-le-zero, mul-suc}
 use lib.ListN.{length, take, drop, getD}
 use lib.Seq.{drop-cons, getD-take, length-take-le}
 use native.Mathlib.Omega.{arith}
-use Rattle.lent.specs.Scan.{gather, every, some, first, last, alike, tally}
+use Rattle.lent.specs.Scan.{gather, every, some, first, last, alike, tally, places}
 
 -- as many as there are places
 pub gathered-length : {A : Type 0} (read : ℕ → A) (step at n : ℕ) → length (gather read step at n) ≡ n
@@ -113,6 +113,21 @@ module _ {A : Type 0} (read : ℕ → A) (step at n : ℕ) where
 pub small : (t : ℕ) (b : Bool) → t ≡ cond b 1 0 → t ≤ 1
 small t true e = omega arith
 small t false e = omega arith
+
+-- places at which a test holds may be passed over
+pub passes : (test : ℕ → Bool) (at n m : ℕ) → ((j : ℕ) → at ≤ j → j < at + m → test j ≡ true) → every test (places 1 (at + m) (n - m)) ≡ every test (places 1 at n)
+unfolding gather every
+passes test at n zero h =
+    let e : at + 0 ≡ at = omega arith in
+    let f : n - 0 ≡ n = omega arith in
+    rw (e, f)
+passes test at zero (suc m) h =
+    let f : 0 - suc m ≡ 0 = omega arith in
+    rw f
+passes test at (suc n) (suc m) h =
+    let e : at + suc m ≡ (at + 1) + m = omega arith in
+    let f : suc n - suc m ≡ n - m = omega arith in
+    rw (e, f, h at (omega arith) (omega arith)) (passes test (at + 1) n m (λ j low high. h j (omega arith) (omega arith)))
 
 -- a count may be taken in two parts
 pub tally-add : {A : Type 0} (test : A → Bool) (read : ℕ → A) (at n m : ℕ)

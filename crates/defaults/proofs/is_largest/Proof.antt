@@ -4,7 +4,7 @@ use borrow.Author.Tests.{eq-eqb, ne-eqb}
 use lib.Dec.{eqb}
 use mathlib.Core.Path.{_≡_, refl}
 use native.Mathlib.Omega.{arith}
-use Rattle.defaults.proofs.Blank.{last-is}
+use Rattle.defaults.proofs.Gaps.{last-is}
 use Rattle.defaults.specs.Defaults.{isLargest, largestByte}
 use Rattle.lent.proofs.Scan.{ends, goes, stops}
 use Rattle.lent.specs.Bytes.{byteAt}

@@ -34,7 +34,7 @@ defaults-ok-requires : tie.Need-defaults-ok-requires
 defaults-ok-requires c κs =
     let a = (c .before .before .before .before .before .before .before .before .before .before .args) in
     let h = header-fits (a .cat .now) (a .header) (c .before .before .record-size .result) (fieldsOf (c .before .before .before .table-at .result .now)) (sym (c .before .header-ok .ensures) ∙ not-false (c .before .header-ok .result) (c .if1 .left)) in
-    (h .1, rw (c .before .before .record-size .ensures) (c .before .before .before .before .before .before .before .before .before .before .pre .3), rw (c .before .before .before .table-at .ensures) (c .before .before .before .before .before .before .before .before .before .before .pre .4), rw (c .before .before .before .table-at .ensures) (c .before .before .before .before .before .before .before .before .before .before .pre .5))
+    (h .1, rw (c .before .before .record-size .ensures) (c .before .before .before .before .before .before .before .before .before .before .pre .3), rw (c .before .before .before .table-at .ensures) (c .before .before .before .before .before .before .before .before .before .before .pre .4))
 
 returns-2 : tie.Need-returns-2
 returns-2 c =
