@@ -47,7 +47,7 @@ fn lay(
     marks: &[u8],
     room: &mut [u8],
 )
-    requires { ⌜ (from < 4000000000) × (to < 4000000000) × (header ≤ maxHeader) × (recordAt (now source) from .base ≤ maxBytes) × (recordSize (recordAt (now target) to) ≤ maxBytes) × (length (recordAt (now target) to .table) ≤ 16 * maxFields) × (length (now body) ≤ maxBytes) × (slotSize ≤ length (now room)) ⌝ }
+    requires { ⌜ (from < 4000000000) × (to < 4000000000) × (header ≤ maxHeader) × (recordAt (now source) from .base ≤ maxBytes) × (recordSize (recordAt (now target) to) ≤ maxBytes) × (length (recordAt (now target) to .table) ≤ 16 * maxFields) × (length (now body) ≤ maxBytes) × (slotSize ≤ length (now room)) × (length (recordAt (now source) from .table) ≤ 16 * maxFields) ⌝ }
     ensures { λ r. ⌜ now (room .exit) ≡ laidBetween (now (cat .entry)) (recordAt (now (source .entry)) from) (recordAt (now (target .entry)) to) header (now (body .entry)) (now (marks .entry)) (now (room .entry)) ⌝ }
 {
     let bases = Bases {
@@ -86,7 +86,7 @@ fn between(
     marks: &[u8],
     room: &mut [u8],
 ) -> Planned
-    requires { ⌜ (from < 4000000000) × (to < 4000000000) × (recordAt (now source) from .base ≤ maxBytes) × (recordSize (recordAt (now target) to) ≤ maxBytes) × (length (recordAt (now target) to .table) ≤ 16 * maxFields) × (every (inBounds maxBytes) (fieldsOf (recordAt (now target) to .table)) ≡ true) ⌝ }
+    requires { ⌜ (from < 4000000000) × (to < 4000000000) × (recordAt (now source) from .base ≤ maxBytes) × (recordSize (recordAt (now target) to) ≤ maxBytes) × (length (recordAt (now target) to .table) ≤ 16 * maxFields) × (every (inBounds maxBytes) (fieldsOf (recordAt (now target) to .table)) ≡ true) × (length (recordAt (now source) from .table) ≤ 16 * maxFields) ⌝ }
     ensures { λ r. ⌜ (r ≡ betweenOf (now (cat .entry)) (recordAt (now (target .entry)) to) header (now (body .entry)) (now (marks .entry)) (length (now (room .entry)))) × (now (room .exit) ≡ orFound r (laidBetween (now (cat .entry)) (recordAt (now (source .entry)) from) (recordAt (now (target .entry)) to) header (now (body .entry)) (now (marks .entry)) (now (room .entry))) (now (room .entry))) ⌝ }
 {
     let want = block::table_at(Holder::Record, target, to);

@@ -57,6 +57,7 @@ between-requires c κs =
       rw (c .before .record-head2 .ensures .0) (size-small (a .cat .now) t (a .to) shaped′ to bounds),
       rw (c .before .record-head2 .ensures .0) (few-fields (a .cat .now) t (a .to) shaped′ to),
       rw (c .before .record-head2 .ensures .0) (all-bounded (a .cat .now) t (a .to) shaped′ to bounds),
+      rw (c .before .before .record-head .ensures .0) (few-fields (a .cat .now) s (a .k) shaped from),
     )
 
 returns : tie.Need-returns
