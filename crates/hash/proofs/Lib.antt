@@ -1,4 +1,3 @@
 pub mod Fed
 pub mod Walks
 pub mod Prints
-pub mod Placed

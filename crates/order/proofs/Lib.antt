@@ -1,3 +1,4 @@
 pub mod Placing
 pub mod Mapped
 pub mod Kept
+pub mod Placed

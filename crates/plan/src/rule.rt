@@ -1,10 +1,13 @@
 // op_for of dbn's upgrade.rs: what a source field brings to a target field of its id.
 ghost use mathlib.Core.Path.{_≡_};
-ghost use Prim.Native.Nat.{_<_};
+ghost use Prim.Native.Nat.{_+_, _≤_};
+ghost use lib.ListN.{length};
 ghost use Rattle.lent.specs.Scan.{first};
 ghost use Rattle.field.specs.Field.{fieldsOf};
 ghost use Rattle.step.specs.Step.{copy, int};
+ghost use Rattle.plan.specs.Places.{IndexOf};
 ghost use Rattle.plan.specs.Rule.{counts, sameScale, sameArrayness, sameKind, apart, isString, isSigned, sameSign, stepFor, isMarked, wantAt, sameId, stepOf};
+use crate::places;
 use field::FieldDef;
 use step::Op;
 use step::Step;
@@ -117,19 +120,20 @@ pub fn op_for(cat: &[u8], have: FieldDef, want: FieldDef, marked: bool) -> Carri
     Carried::Default
 }
 
-fn from_first(cat: &[u8], src: &[u8], want: FieldDef, marked: bool) -> Carried
+fn from_first(cat: &[u8], src: &[u8], index: &[u8; 256], want: FieldDef, marked: bool) -> Carried
+    requires { ⌜ IndexOf (fieldsOf (now src)) (now index) ⌝ }
     ensures { λ r. ⌜ r ≡ first (sameId want) (λ have. stepFor (now (cat .entry)) have want marked) Carried.Default (fieldsOf (now (src .entry))) ⌝ }
 {
-    let mut at = 0;
-    let mut left = src.len() / field::SIZE;
-    while left != 0 {
-        if lent::u16_in(src, at) == want.field_id {
-            return op_for(cat, field::field_in(src, at), want, marked);
-        }
-        at += field::SIZE;
-        left -= 1;
+    let place = places::find(src, index, want.field_id);
+    if place == 0 {
+        return Carried::Default;
     }
-    Carried::Default
+    op_for(
+        cat,
+        field::field_in(src, field::SIZE * (place - 1)),
+        want,
+        marked,
+    )
 }
 
 // Marks are a byte a field; there is none past the end.
@@ -139,15 +143,22 @@ pub fn is_marked(cat: &[u8], marks: &[u8], k: usize, f: FieldDef) -> bool
     !(lent::byte_at(marks, k) == 0) & field::is_plain_integer(cat, f)
 }
 
-// Of the target field at a place of its table.
-pub fn step_of(cat: &[u8], src: &[u8], dst: &[u8], marks: &[u8], at: usize) -> Carried
-    requires { ⌜ at < 65536 ⌝ }
+// Of the target field at a place of its table, the source's index beside the source.
+pub fn step_of(
+    cat: &[u8],
+    src: &[u8],
+    index: &[u8; 256],
+    dst: &[u8],
+    marks: &[u8],
+    at: usize,
+) -> Carried
+    requires { ⌜ (at + 16 ≤ length (now dst)) × IndexOf (fieldsOf (now src)) (now index) ⌝ }
     ensures { λ r. ⌜ r ≡ stepOf (now (cat .entry)) (fieldsOf (now (src .entry))) (wantAt (now (cat .entry)) (now (marks .entry)) (now (dst .entry)) at) ⌝ }
 {
-    let want = field::field_at(dst, at);
+    let want = field::field_in(dst, at);
     if !counts(cat, want) {
         return Carried::Default;
     }
     let marked = is_marked(cat, marks, at / field::SIZE, want);
-    from_first(cat, src, want, marked)
+    from_first(cat, src, index, want, marked)
 }

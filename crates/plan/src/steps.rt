@@ -2,12 +2,14 @@
 ghost use mathlib.Core.Path.{_≡_};
 ghost use mathlib.Core.Bool.{cond};
 ghost use mathlib.Core.List.{map};
-ghost use Prim.Native.Nat.{_+_, _<_, _≤_};
-ghost use lib.ListN.{length, take};
+ghost use Prim.Native.Nat.{ℕ, _+_, _*_, _<_, _≤_};
+ghost use lib.ListN.{length, getD, take};
+ghost use Rattle.limits.specs.Limits.{maxFields, maxSteps};
 ghost use Rattle.field.specs.Field.{fieldsOf};
 ghost use Rattle.step.specs.Step.{copy};
 ghost use Rattle.plan.specs.Rule.{wantAt, wants};
 ghost use Rattle.plan.specs.Steps.{inBases, adjacent, joins, joined, stepsOf, joinAll, plannedSteps};
+use crate::places;
 use crate::rule;
 use crate::rule::Carried;
 use step::Op;
@@ -124,23 +126,28 @@ fn in_order(
     n: usize,
     bases: Bases,
 ) -> Steps
-    requires { ⌜ (n ≤ 128) × (n ≤ length (now order)) × (bases .source < 65536) ⌝ }
+    requires { ⌜ (n ≤ maxSteps) × (n ≤ length (now order)) × (bases .source < 65536) × (length (now src) ≤ 16 * maxFields) × ((k : ℕ) → k < n → getD (now order) k 0 + 16 ≤ length (now dst)) ⌝ }
     ensures { λ r. ⌜ (take (r .count) (r .steps) ≡ joinAll (bases .source) (bases .target) (stepsOf (now (cat .entry)) (fieldsOf (now (src .entry))) (map (wantAt (now (cat .entry)) (now (marks .entry)) (now (dst .entry))) (take n (now (order .entry)))))) × (r .count ≤ n) ⌝ }
 {
+    // An integer step: each of its bytes is written, so the array is laid out at once.
     let none = Step {
-        op: Op::Copy {
+        op: Op::Int {
             src_offset: 0,
             dst_offset: 0,
-            size: 0,
+            src_size: 0,
+            dst_size: 0,
+            signed: false,
+            has_undef_max: false,
         },
     };
+    let index = places::index(src);
     let mut steps = [none; limits::MAX_STEPS];
     let mut count = 0;
     let mut k = 0;
     'next: while k < n {
         let at = lent::wide16(order[k]);
         k += 1;
-        match rule::step_of(cat, src, dst, marks, at) {
+        match rule::step_of(cat, src, &index, dst, marks, at) {
             Carried::Default => continue 'next,
             Carried::By(step) => {
                 if count == 0 {
@@ -170,7 +177,7 @@ fn in_order(
 
 // The steps from a source's table to a target's, under its marks.
 pub fn planned(cat: &[u8], src: &[u8], dst: &[u8], marks: &[u8], bases: Bases) -> Steps
-    requires { ⌜ (length (now dst) ≤ 2048) × (bases .source < 65536) ⌝ }
+    requires { ⌜ (length (now dst) ≤ 16 * maxFields) × (bases .source < 65536) × (length (now src) ≤ 16 * maxFields) ⌝ }
     ensures { λ r. ⌜ (take (r .count) (r .steps) ≡ plannedSteps (now (cat .entry)) (fieldsOf (now (src .entry))) (wants (now (cat .entry)) (now (marks .entry)) (now (dst .entry))) (bases .source) (bases .target)) × (r .count ≤ 128) ⌝ }
 {
     let n = dst.len() / field::SIZE;

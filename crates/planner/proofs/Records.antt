@@ -44,7 +44,7 @@ module _ (cat l : List ℕ) (k : ℕ) (shaped : shapeOk l ≡ true) (there : k <
       leb-true _ _ (both (leb (numberAt l (8 + 72 * k + 4) 4) maxBytes) _ (nth (headShape Record l) (λ (h : ℕ). h) 72 8 (countOf Record l) k there all) .0)
 
   module _ (bounds : layoutOk Bounds cat l ≡ true) where
-    pub all-bounded : every (inBounds maxBytes) (fieldsOf (recordOf l k .table)) ≡ true
+    all-bounded : every (inBounds maxBytes) (fieldsOf (recordOf l k .table)) ≡ true
     unfolding layoutOk
     all-bounded = nth (headOk Bounds Record cat l) (λ (h : ℕ). h) 72 8 (countOf Record l) k there (both (every (headOk Bounds Record cat l) (heads Record l)) _ bounds .0)
 

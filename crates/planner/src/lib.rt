@@ -2,13 +2,9 @@
 pub mod select;
 
 ghost use mathlib.Core.Path.{_≡_};
-ghost use mathlib.Core.Bool.{true};
 ghost use Prim.Native.Nat.{_+_, _*_, _<_, _≤_};
 ghost use lib.ListN.{length};
 ghost use Rattle.limits.specs.Limits.{maxBytes, maxFields, maxHeader};
-ghost use Rattle.lent.specs.Scan.{every};
-ghost use Rattle.field.specs.Field.{fieldsOf};
-ghost use Rattle.table.specs.Table.{inBounds};
 ghost use Rattle.layout.specs.Layout.{recordAt};
 ghost use Rattle.layout.specs.Size.{recordSize};
 ghost use Rattle.slot.specs.Slot.{slotSize};
@@ -47,7 +43,7 @@ fn lay(
     marks: &[u8],
     room: &mut [u8],
 )
-    requires { ⌜ (from < 4000000000) × (to < 4000000000) × (header ≤ maxHeader) × (recordAt (now source) from .base ≤ maxBytes) × (recordSize (recordAt (now target) to) ≤ maxBytes) × (length (recordAt (now target) to .table) ≤ 16 * maxFields) × (length (now body) ≤ maxBytes) × (slotSize ≤ length (now room)) ⌝ }
+    requires { ⌜ (from < 4000000000) × (to < 4000000000) × (header ≤ maxHeader) × (recordAt (now source) from .base ≤ maxBytes) × (recordSize (recordAt (now target) to) ≤ maxBytes) × (length (recordAt (now target) to .table) ≤ 16 * maxFields) × (length (now body) ≤ maxBytes) × (slotSize ≤ length (now room)) × (length (recordAt (now source) from .table) ≤ 16 * maxFields) ⌝ }
     ensures { λ r. ⌜ now (room .exit) ≡ laidBetween (now (cat .entry)) (recordAt (now (source .entry)) from) (recordAt (now (target .entry)) to) header (now (body .entry)) (now (marks .entry)) (now (room .entry)) ⌝ }
 {
     let bases = Bases {
@@ -86,7 +82,7 @@ fn between(
     marks: &[u8],
     room: &mut [u8],
 ) -> Planned
-    requires { ⌜ (from < 4000000000) × (to < 4000000000) × (recordAt (now source) from .base ≤ maxBytes) × (recordSize (recordAt (now target) to) ≤ maxBytes) × (length (recordAt (now target) to .table) ≤ 16 * maxFields) ⌝ }
+    requires { ⌜ (from < 4000000000) × (to < 4000000000) × (recordAt (now source) from .base ≤ maxBytes) × (recordSize (recordAt (now target) to) ≤ maxBytes) × (length (recordAt (now target) to .table) ≤ 16 * maxFields) × (length (recordAt (now source) from .table) ≤ 16 * maxFields) ⌝ }
     ensures { λ r. ⌜ (r ≡ betweenOf (now (cat .entry)) (recordAt (now (target .entry)) to) header (now (body .entry)) (now (marks .entry)) (length (now (room .entry)))) × (now (room .exit) ≡ orFound r (laidBetween (now (cat .entry)) (recordAt (now (source .entry)) from) (recordAt (now (target .entry)) to) header (now (body .entry)) (now (marks .entry)) (now (room .entry))) (now (room .entry))) ⌝ }
 {
     let want = block::table_at(Holder::Record, target, to);

@@ -8,7 +8,7 @@ use borrow.Author.Needs.{needs}
 use Rattle.hash.specs.Parts.{told}
 use Rattle.hash.specs.Walk.{walkFields, walkTable}
 use Rattle.hash.proofs.Walks.{taken, taken-walks, few-entered, walk-goes, walk-stops, walk-ends, walk-starts, too-deep}
-use Rattle.hash.proofs.Placed.{placed}
+use Rattle.order.proofs.Placed.{placed}
 use Rattle.field.specs.Field.{fieldAt, fieldsOf}
 use Rattle.crc64.specs.Sum.{bytesStep}
 use Prim.Native.Nat.{ℕ, _<_}

@@ -17,7 +17,7 @@ table-at-requires-2 : tie.Need-table-at-requires-2
 table-at-requires-2 c κs = search needs
 
 planned-requires : tie.Need-planned-requires
-planned-requires c κs = (rw (c .table-at2 .ensures) (c .before .before .before .before .before .before .before .before .before .before .pre .5), omega (arith, c .before .before .before .record-base .ensures, c .before .before .before .before .before .before .before .before .before .before .pre .3))
+planned-requires c κs = (rw (c .table-at2 .ensures) (c .before .before .before .before .before .before .before .before .before .before .pre .5), omega (arith, c .before .before .before .record-base .ensures, c .before .before .before .before .before .before .before .before .before .before .pre .3), rw (c .before .table-at .ensures) (c .before .before .before .before .before .before .before .before .before .before .pre .8))
 
 record-rtype-requires : tie.Need-record-rtype-requires
 record-rtype-requires c κs = search needs

@@ -10,7 +10,7 @@ use Rattle.admission.specs.Admission.{layoutOk}
 use Rattle.layout.specs.Layout.{countOf}
 use Rattle.layout.specs.Shape.{shapeOk}
 use Rattle.planner.proofs.Passing.{both-there}
-use Rattle.planner.proofs.Records.{all-bounded, base-small, few-fields, size-small}
+use Rattle.planner.proofs.Records.{base-small, few-fields, size-small}
 use Rattle.planner.specs.Planner.{afterPlan, plannedOf}
 use Rattle.planner.specs.declared.select.Selected.the-variants.{Record}
 use Rattle.table.specs.declared.Rule.the-variants.{Bounds}
@@ -56,6 +56,7 @@ between-requires c κs =
       rw (c .before .before .record-head .ensures .0) (base-small (a .cat .now) s (a .k) shaped from),
       rw (c .before .record-head2 .ensures .0) (size-small (a .cat .now) t (a .to) shaped′ to bounds),
       rw (c .before .record-head2 .ensures .0) (few-fields (a .cat .now) t (a .to) shaped′ to),
+      rw (c .before .before .record-head .ensures .0) (few-fields (a .cat .now) s (a .k) shaped from),
     )
 
 returns : tie.Need-returns

@@ -5,15 +5,15 @@ use Rattle.plan.specs.Rule.{stepOf}
 use Rattle.plan.proofs.rule.step_of.Statement.{statement}
 use Rattle.plan.proofs.rule.step_of.Tie as tie
 
-field-at-requires : tie.Need-field-at-requires
-field-at-requires c κs = search needs
+field-in-requires : tie.Need-field-in-requires
+field-in-requires c κs = search needs
 
 counts-requires : tie.Need-counts-requires
 counts-requires c κs = search needs
 
 returns : tie.Need-returns
 unfolding stepOf
-returns c = rw (← c .before .before .field-at .ensures, sym (c .before .counts .ensures) ∙ not-true _ (c .if1 .taken))
+returns c = rw (← c .before .before .field-in .ensures, sym (c .before .counts .ensures) ∙ not-true _ (c .if1 .taken))
 
 is-marked-requires : tie.Need-is-marked-requires
 is-marked-requires c κs = search needs
@@ -24,14 +24,14 @@ from-first-requires c κs = search needs
 returns-2 : tie.Need-returns-2
 unfolding stepOf
 returns-2 c =
-    let f = c .before .before .before .before .field-at .ensures in
+    let f = c .before .before .before .before .field-in .ensures in
     c .from-first .ensures ∙ rw (c .before .is-marked .ensures, f) (rw (← f, sym (c .before .before .before .counts .ensures) ∙ not-false _ (c .before .before .if1 .left)))
 
 pub step-of-spec : {M : Type 1} → statement M
 step-of-spec =
     tie.close
     (tie.spec
-    field-at-requires
+    field-in-requires
     counts-requires
     returns
     is-marked-requires

@@ -10,18 +10,20 @@ use Rattle.plan.proofs.Joining.{joinOnto}
 use Rattle.plan.proofs.Planning.{first-step, has-default, joins-last, no-more, one-means, rest, stands-alone, two-means}
 use Rattle.plan.specs.Rule.{wantAt}
 use Rattle.plan.specs.Steps.{joinAll, stepsOf}
-use Rattle.plan.specs.declared.rule.Carried.the-variants.{By, Default}
 use Rattle.plan.proofs.steps.in_order.Statement.{statement}
 use Rattle.plan.proofs.steps.in_order.Tie as tie
 
 abbrev Inv-next : tie.InvT-next
-Inv-next cat src dst marks order n bases steps₀ count₀ k₀ steps count k =
+Inv-next cat src dst marks order n bases index steps₀ count₀ k₀ steps count k =
     (k ≤ n) × (count ≤ k) × (length steps ≡ 128)
     × (joinOnto (bases .source) (bases .target) (take count steps) (rest cat (fieldsOf src) (wantAt cat marks dst) order n k)
     ≡ joinAll (bases .source) (bases .target) (stepsOf cat (fieldsOf src) (map (wantAt cat marks dst) (take n order))))
 
 abbrev μ-next : tie.MeasureT-next
-μ-next cat src dst marks order n bases steps₀ count₀ k₀ steps count k = n - k
+μ-next cat src dst marks order n bases index steps₀ count₀ k₀ steps count k = n - k
+
+index-requires : tie.Need-index-requires Inv-next μ-next
+index-requires c κs = search needs
 
 next-holds : tie.Need-next-holds Inv-next μ-next
 unfolding joinOnto
@@ -40,7 +42,8 @@ add-k : tie.Need-add-k Inv-next μ-next
 add-k c = omega arith
 
 step-of-requires : tie.Need-step-of-requires Inv-next μ-next
-step-of-requires c κs = search needs
+step-of-requires c κs =
+    (rw (c .before .wide16 .ensures .0) (c .before .before .before .before .before .before .before .before .before .before .before .pre .4 (c .before .before .before .before .next .k) (omega arith)), c .before .before .before .before .before .index .ensures)
 
 enum-told : tie.Need-enum-told Inv-next μ-next
 enum-told c = omega arith
@@ -50,14 +53,14 @@ next-less c = omega arith
 
 next-again : tie.Need-next-again Inv-next μ-next
 next-again c =
-    let a = (c .before .before .before .before .before .before .before .before .before .before .before .before .args) in
-    let l = (c .before .before .before .before .before .before .next) in (
+    let a = c .before .before .before .before .before .before .before .before .before .before .before .before .before .before .args in
+    let l = c .before .before .before .before .before .before .before .next in (
       omega arith,
       omega arith,
       l .inv .2,
       has-default (a .cat .now) (fieldsOf (a .src .now)) (wantAt (a .cat .now) (a .marks .now) (a .dst .now)) (a .order .now) (a .n)
           (a .bases .source) (a .bases .target) (l .k) (l .count) (l .steps) _ (l .inv .3) (omega arith) (omega arith)
-          (rw (← c .before .before .before .wide16 .ensures .0) (sym (c .before .before .step-of .ensures) ∙ c .enum-told .given .1)),
+          (rw (← c .before .before .before .before .wide16 .ensures .0) (sym (c .before .before .step-of .ensures) ∙ c .enum-told .given .1)),
     )
 
 enum-known-step : tie.Need-enum-known-step Inv-next μ-next
@@ -71,14 +74,14 @@ next-less-2 c = omega arith
 
 next-again-2 : tie.Need-next-again-2 Inv-next μ-next
 next-again-2 c =
-    let a = (c .before .before .before .before .before .before .before .before .before .before .before .before .before .before .args) in
-    let l = (c .before .before .before .before .before .before .before .before .next) in (
+    let a = c .before .before .before .before .before .before .before .before .before .before .before .before .before .before .before .before .args in
+    let l = c .before .before .before .before .before .before .before .before .before .next in (
       omega arith,
       omega arith,
       simp length-set (l .inv .2),
       first-step (a .cat .now) (fieldsOf (a .src .now)) (wantAt (a .cat .now) (a .marks .now) (a .dst .now)) (a .order .now) (a .n)
           (a .bases .source) (a .bases .target) (l .k) (l .count) (l .steps) _ (l .inv .3) (omega arith) (omega arith)
-          _ (rw (← c .before .before .before .before .before .wide16 .ensures .0) (sym (c .before .before .before .before .step-of .ensures) ∙ c .before .before .step .given .1)) (omega arith) (omega arith),
+          _ (rw (← c .before .before .before .before .before .before .wide16 .ensures .0) (sym (c .before .before .before .before .step-of .ensures) ∙ c .before .before .step .given .1)) (omega arith) (omega arith),
     )
 
 sub-last : tie.Need-sub-last Inv-next μ-next
@@ -110,15 +113,15 @@ next-less-3 c = omega arith
 
 next-again-3 : tie.Need-next-again-3 Inv-next μ-next
 next-again-3 c =
-    let a = (c .before .before .before .before .before .before .before .before .before .before .before .before .before .before .before .before .before .before .before .args) in
-    let l = (c .before .before .before .before .before .before .before .before .before .before .before .before .before .next) in
+    let a = c .before .before .before .before .before .before .before .before .before .before .before .before .before .before .before .before .before .before .before .before .before .args in
+    let l = c .before .before .before .before .before .before .before .before .before .before .before .before .before .before .next in
     let j = one-means _ _ _ (sym (c .before .before .before .join .ensures) ∙ c .before .both .given .1) in (
       omega arith,
       omega arith,
       simp length-set (l .inv .2),
       joins-last (a .cat .now) (fieldsOf (a .src .now)) (wantAt (a .cat .now) (a .marks .now) (a .dst .now)) (a .order .now) (a .n)
           (a .bases .source) (a .bases .target) (l .k) (l .count) (l .steps) _ (l .inv .3) (omega arith) (omega arith)
-          _ (rw (← c .before .before .before .before .before .before .before .before .before .before .wide16 .ensures .0) (sym (c .before .before .before .before .before .before .before .before .before .step-of .ensures) ∙ c .before .before .before .before .before .before .before .step .given .1)) _ (omega arith) (omega arith) (j .0) _ (j .1),
+          _ (rw (← c .before .before .before .before .before .before .before .before .before .before .before .wide16 .ensures .0) (sym (c .before .before .before .before .before .before .before .before .before .step-of .ensures) ∙ c .before .before .before .before .before .before .before .step .given .1)) _ (omega arith) (omega arith) (j .0) _ (j .1),
     )
 
 enum-told-2 : tie.Need-enum-told-2 Inv-next μ-next
@@ -138,21 +141,21 @@ next-less-4 c = omega arith
 
 next-again-4 : tie.Need-next-again-4 Inv-next μ-next
 next-again-4 c =
-    let a = (c .before .before .before .before .before .before .before .before .before .before .before .before .before .before .before .before .before .before .args) in
-    let l = (c .before .before .before .before .before .before .before .before .before .before .before .before .next) in
+    let a = c .before .before .before .before .before .before .before .before .before .before .before .before .before .before .before .before .before .before .before .before .args in
+    let l = c .before .before .before .before .before .before .before .before .before .before .before .before .before .next in
     let j = two-means _ _ (sym (c .before .before .join .ensures) ∙ c .enum-told2 .given .1) in (
       omega arith,
       omega arith,
       simp length-set (l .inv .2),
       stands-alone (a .cat .now) (fieldsOf (a .src .now)) (wantAt (a .cat .now) (a .marks .now) (a .dst .now)) (a .order .now) (a .n)
           (a .bases .source) (a .bases .target) (l .k) (l .count) (l .steps) _ (l .inv .3) (omega arith) (omega arith)
-          _ (rw (← c .before .before .before .before .before .before .before .before .before .wide16 .ensures .0) (sym (c .before .before .before .before .before .before .before .before .step-of .ensures) ∙ c .before .before .before .before .before .before .step .given .1)) _ (omega arith) (omega arith) j (omega arith),
+          _ (rw (← c .before .before .before .before .before .before .before .before .before .before .wide16 .ensures .0) (sym (c .before .before .before .before .before .before .before .before .step-of .ensures) ∙ c .before .before .before .before .before .before .step .given .1)) _ (omega arith) (omega arith) j (omega arith),
     )
 
 returns : tie.Need-returns Inv-next μ-next
 returns c =
-    let a = (c .before .before .before .before .before .before .before .args) in
-    let l = (c .before .next) in (
+    let a = c .before .before .before .before .before .before .before .before .args in
+    let l = c .before .next in (
       no-more (a .cat .now) (fieldsOf (a .src .now)) (wantAt (a .cat .now) (a .marks .now) (a .dst .now)) (a .order .now) (a .n)
           (a .bases .source) (a .bases .target) (l .k) (l .count) (l .steps) _ (l .inv .3) (omega arith),
       omega arith,
@@ -164,6 +167,7 @@ in-order-spec =
     (tie.spec
     Inv-next
     μ-next
+    index-requires
     next-holds
     mul-wide16
     shared-slice-read-wide16
