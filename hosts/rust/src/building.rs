@@ -44,7 +44,9 @@ pub struct Room<'a> {
 /// // the listed id first, then the others in their order, padding among them
 /// assert_eq!((cursor.count, cursor.cursor, cursor.base), (5, 24, Some(24)));
 /// let fields = FieldDef::all_from(&table[..16 * cursor.count]);
-/// assert_eq!(fields.iter().map(|f| (f.field_id, f.offset)).collect::<Vec<_>>()[..3], [(3, 8), (2, 0), (4, 16)]);
+/// let ids: Vec<u16> = fields.iter().map(|f| f.field_id).collect();
+/// assert_eq!(ids, [3, 2, 0, 4, 0]);
+/// assert_eq!((fields[0].offset, fields[3].offset), (8, 16));
 /// # Ok::<_, Refusal>(())
 /// ```
 #[derive(Clone, Copy, Debug, PartialEq, Eq, Hash)]

@@ -11,11 +11,19 @@ fn the_planner_writes_a_slot_or_nothing() {
     let (mut g, mut seen) = (Generator::new(11), Seen::default());
     for _ in 0..ROUNDS {
         let cat = damaged(&mut g, Catalogue::dbn(1).to_bytes().into(), 40);
-        let source = g.layout().to_block();
-        let source = damaged(&mut g, source, 4);
-        let layout = g.layout();
-        let target = damaged(&mut g, layout.to_block(), 4);
-        let to = g.below(4);
+        let (old, mut new) = (g.layout(), g.layout());
+        if g.one_in(20) {
+            let defs = new.records[0].fields.iter_mut().map(|f| &mut f.def);
+            defs.for_each(|def| def.type_id = dbn::U32);
+        }
+        let source = damaged(&mut g, old.to_block(), 8);
+        let target = damaged(&mut g, new.to_block(), 8);
+        // now and then one past the last
+        let past = usize::from(g.one_in(8));
+        let (k, to) = (
+            g.below(old.records.len() + past),
+            g.below(new.records.len() + past),
+        );
         let header = g.pick(&[16, 24, 24, 24, 25, 65]);
         let size = record_size(&cat, &target, to).unwrap_or(None).unwrap_or(24);
         let length = size.saturating_sub(header) + usize::from(g.one_in(8));
@@ -28,15 +36,7 @@ fn the_planner_writes_a_slot_or_nothing() {
         let before = g.bytes(room);
         let mut slot = before.clone();
         let made = plan(
-            &cat,
-            &source,
-            g.below(3),
-            &target,
-            to,
-            header,
-            &body,
-            &marks,
-            &mut slot,
+            &cat, &source, k, &target, to, header, &body, &marks, &mut slot,
         );
         seen.note_perhaps(&made);
         if made != Ok(Some(())) {
@@ -57,7 +57,7 @@ fn record(g: &mut Generator) -> (Vec<u8>, usize, Vec<u8>) {
     (g.bytes(80), stated, g.bytes(room))
 }
 
-/// Header and tail are as they were; so is all of the body that no step writes, but for the default's bytes.
+/// Header and tail are as they were; without steps the body is the default.
 fn is_upgraded(plan: &Plan, before: &[u8], target: &[u8]) {
     let (header, size) = (plan.numbers.header.into(), plan.numbers.size.into());
     assert_eq!(target[..header], before[..header]);
