@@ -1,6 +1,6 @@
 //! Upgrade plans as plain values, and the slots and texts that hold them.
 use crate::{
-    limits::{BODY_FROM, MAX_STEPS, SLOT, STEP, STEPS_FROM, TEXT},
+    limits::{BODY_FROM, SLOT, STEP, STEPS_FROM, TEXT},
     refusal::Refusal,
     texting::{check_plan, read_plan, write_plan},
 };
@@ -79,7 +79,7 @@ impl Plan {
         let count = u16::try_from(self.steps.len()).map_err(|_| Refusal::BadPlan)?;
         let n = &self.numbers;
         let body = n.size.checked_sub(n.header).map(usize::from);
-        if body != Some(self.body.len()) || self.steps.len() > MAX_STEPS {
+        if body != Some(self.body.len()) {
             return Err(Refusal::BadPlan);
         }
         let mut slot = [0; SLOT];
@@ -93,7 +93,9 @@ impl Plan {
             count,
         ];
         put_numbers(&mut slot, &numbers);
-        for (room, step) in slot[STEPS_FROM..].chunks_exact_mut(STEP).zip(&self.steps) {
+        // steps past the room are left out: their count is refused
+        let steps = slot[STEPS_FROM..BODY_FROM].chunks_exact_mut(STEP);
+        for (room, step) in steps.zip(&self.steps) {
             put_step(room, step);
         }
         let room = slot.get_mut(BODY_FROM..BODY_FROM + self.body.len());

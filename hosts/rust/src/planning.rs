@@ -21,13 +21,14 @@ pub enum Selected {
 ///
 /// let cat = Catalogue::dbn(1).to_bytes();
 /// let source = Layout::from(RecordLayout::new(1, "trade", 16, [])).to_block();
-/// let quote = RecordLayout::new(7, "quote", 16, []);
+/// let other = RecordLayout::new(7, "trade", 16, []);
 /// let trade = RecordLayout::new(1, "trade", 24, []);
-/// let target = Layout { records: vec![quote.clone(), trade], structs: vec![] }.to_block();
+/// let target = Layout { records: vec![other.clone(), trade], structs: vec![] }.to_block();
 /// assert_eq!(select(&cat, &source, 0, &target, None), Ok(Some(Selected::Record(1))));
+/// assert_eq!(select(&cat, &source, 0, &target, Some(0)), Ok(Some(Selected::Record(0))));
 ///
-/// let quotes = Layout::from(quote).to_block();
-/// assert_eq!(select(&cat, &source, 0, &quotes, Some(3)), Ok(Some(Selected::Unplanned)));
+/// let others = Layout::from(other).to_block();
+/// assert_eq!(select(&cat, &source, 0, &others, None), Ok(Some(Selected::Unplanned)));
 /// ```
 pub fn select(
     cat: &[u8],
