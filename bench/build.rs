@@ -1,4 +1,4 @@
-//! Links the port's static library, which `rt staticlib tuppenceowl` writes.
+//! Links the port's static library, which `rt staticlib tuppenceowl_c` writes.
 use std::{env, path::Path};
 
 fn main() {
@@ -6,8 +6,8 @@ fn main() {
     let made = root.join("target/staticlib");
     println!(
         "cargo:rerun-if-changed={}",
-        made.join("libtuppenceowl.a").display()
+        made.join("libtuppenceowl_c.a").display()
     );
     println!("cargo:rustc-link-search=native={}", made.display());
-    println!("cargo:rustc-link-lib=static=tuppenceowl");
+    println!("cargo:rustc-link-lib=static=tuppenceowl_c");
 }

@@ -10,7 +10,6 @@ extern "C" {
         layout: *const u8,
         layout_len: usize,
         k: usize,
-        budget: usize,
         hash: *mut u64,
         visits: *mut usize,
     ) -> u8;
@@ -74,11 +73,7 @@ extern "C" {
         table_len: usize,
         names: *mut u8,
         names_len: usize,
-        most: usize,
-        count: *mut usize,
-        cursor: *mut usize,
-        base: *mut usize,
-        noted: *mut usize,
+        state: *mut [usize; 5],
         field_id: u16,
         type_id: u8,
         size: u16,
@@ -94,11 +89,7 @@ extern "C" {
         table_len: usize,
         names: *mut u8,
         names_len: usize,
-        most: usize,
-        count: *mut usize,
-        cursor: *mut usize,
-        base: *mut usize,
-        noted: *mut usize,
+        state: *mut [usize; 5],
         ids: *const u16,
         ids_len: usize,
     ) -> u8;
@@ -116,9 +107,8 @@ pub fn sum(bytes: &[u8]) -> u64 {
     unsafe { owl_sum(bytes.as_ptr(), bytes.len()) }
 }
 
-/// The hash of the first record within the default budget, if there is one.
+/// The hash of the first record, if there is one.
 pub fn layout_hash(cat: &[u8], layout: &[u8]) -> Option<u64> {
-    const BUDGET: usize = 65536;
     let (mut hash, mut visits) = (0, 0);
     let status = unsafe {
         owl_layout_hash(
@@ -127,7 +117,6 @@ pub fn layout_hash(cat: &[u8], layout: &[u8]) -> Option<u64> {
             layout.as_ptr(),
             layout.len(),
             0,
-            BUDGET,
             &mut hash,
             &mut visits,
         )
@@ -227,25 +216,22 @@ pub fn upgrade(
     }
 }
 
-/// A record's field cursor: four numbers of its state, and the memory that it fills.
+/// A record's field cursor: its state, and the memory that it fills.
 pub struct Cursor {
-    count: usize,
-    cursor: usize,
-    base: usize,
-    noted: usize,
+    state: [usize; 5],
     table: Vec<u8>,
     names: Vec<u8>,
 }
 
 const MOST: usize = 128;
 
+// The most fields of a record, no field yet, no base noted.
+const BEGUN: [usize; 5] = [MOST, 0, 0, 0, 0];
+
 impl Default for Cursor {
     fn default() -> Self {
         Self {
-            count: 0,
-            cursor: 0,
-            base: 0,
-            noted: 0,
+            state: BEGUN,
             table: vec![0; 16 * MOST],
             names: vec![0; 33 * MOST],
         }
@@ -254,7 +240,7 @@ impl Default for Cursor {
 
 impl Cursor {
     pub fn begin(&mut self) {
-        (self.count, self.cursor, self.base, self.noted) = (0, 0, 0, 0);
+        self.state = BEGUN;
     }
 
     pub fn scalar(&mut self, cat: &[u8], id: u16, type_id: u8, size: u16, name: &str) -> u8 {
@@ -266,11 +252,7 @@ impl Cursor {
                 self.table.len(),
                 self.names.as_mut_ptr(),
                 self.names.len(),
-                MOST,
-                &mut self.count,
-                &mut self.cursor,
-                &mut self.base,
-                &mut self.noted,
+                &mut self.state,
                 id,
                 type_id,
                 size,
@@ -291,11 +273,7 @@ impl Cursor {
                 self.table.len(),
                 self.names.as_mut_ptr(),
                 self.names.len(),
-                MOST,
-                &mut self.count,
-                &mut self.cursor,
-                &mut self.base,
-                &mut self.noted,
+                &mut self.state,
                 ids.as_ptr(),
                 ids.len(),
             )
@@ -303,7 +281,7 @@ impl Cursor {
     }
 
     pub fn ids_and_offsets(&self) -> impl Iterator<Item = (u16, u16)> + '_ {
-        let rows = self.table.chunks_exact(16).take(self.count);
+        let rows = self.table.chunks_exact(16).take(self.state[1]);
         rows.map(|r| {
             (
                 u16::from_le_bytes([r[0], r[1]]),

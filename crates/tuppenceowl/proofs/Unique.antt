@@ -4,17 +4,16 @@ use mathlib.Core.Bool.{Bool}
 use mathlib.Core.List.{List}
 use Prim.Native.Nat.{ℕ}
 use lib.ListN.{length}
-use Rattle.admission.specs.Admission.{admitCatalogue, admitOf, statusOf}
+use Rattle.admission.specs.Admission.{admitCatalogue, admitOf}
 use Rattle.admission.specs.declared.Admitted.{Admitted}
-use Rattle.tuppenceowl.specs.Answers.{sizedOf, windowedOf, foundOf, summedOf, bootedOf, summedStatus, hashOr, visitsOr}
-use Rattle.tuppenceowl.specs.Comparing.{judgedOf, judgedRtype, judgedStatus, foundById, foundByName}
-use Rattle.tuppenceowl.specs.Texting.{checkedOf, writtenStatus, lengthOr, readStatus, ReadsAs}
+use Rattle.tuppenceowl.specs.Answers.{sizedOf, windowedOf, foundOf, summedOf, bootedOf}
+use Rattle.tuppenceowl.specs.Comparing.{judgedOf, judgedRtype, foundById, foundByName}
+use Rattle.tuppenceowl.specs.Texting.{checkedOf}
 use Rattle.plan_text.specs.Writing.{writtenOf, afterWriting}
 use Rattle.plan_text.specs.declared.writer.Written.{Written}
 use Rattle.plan_read.specs.Reading.{Reads}
 use Rattle.plan_read.specs.declared.reader.ReadPlan.{ReadPlan}
 use Rattle.plan_read.proofs.Theorems.{reads-one}
-use Rattle.tuppenceowl.specs.Hosted.{Told, Hosted, hosted}
 use Rattle.tuppenceowl.specs.declared.comparing.Judged.{Judged}
 use Rattle.crc64.specs.Avro.{fingerprint}
 use Rattle.limits.specs.Limits.{defaultBudget}
@@ -33,8 +32,6 @@ use Rattle.planner.specs.Planner.{plannedOf, afterPlan}
 use Rattle.planner.specs.Select.{selectedOf}
 use Rattle.planner.specs.declared.Planned.{Planned}
 use Rattle.planner.specs.declared.select.Selected.{Selected}
-use Rattle.tuppenceowl.specs.Planning.{plannedStatus, selectedStatus, recordOr}
-use Rattle.tuppenceowl.specs.Upgrading.{upgradedStatus, rtypeOr, sizeOr}
 
 equal : {A : Type 0} {x r s : A} → r ≡ x → s ≡ x → r ≡ s
 equal p q = p ∙ sym q
@@ -54,13 +51,7 @@ window-unique bytes offset size r s = equal
 pub field-of-unique : (table : List ℕ) (k : ℕ) (r s : Found) → r ≡ foundOf table k → s ≡ foundOf table k → r ≡ s
 field-of-unique table k r s = equal
 
-pub owl-check-catalogue-unique : (cat : List ℕ) (r s : ℕ) → r ≡ statusOf (admitCatalogue cat) → s ≡ statusOf (admitCatalogue cat) → r ≡ s
-owl-check-catalogue-unique cat r s = equal
-
-pub owl-admit-unique : (cat layout : List ℕ) (r s : ℕ) → r ≡ statusOf (admitOf cat layout) → s ≡ statusOf (admitOf cat layout) → r ≡ s
-owl-admit-unique cat layout r s = equal
-
--- ---- the sum, the hash and the boot check; `owl_sum` promises what `sum` does
+-- ---- the sum, the hash and the boot check
 
 pub sum-unique : (bytes : List ℕ) (r s : ℕ) → r ≡ fingerprint bytes → s ≡ fingerprint bytes → r ≡ s
 sum-unique bytes r s = equal
@@ -74,13 +65,6 @@ layout-hash-unique cat layout k r s = equal
 pub boot-check-unique : (cat layout : List ℕ) (k : ℕ) (r s : Booted) → r ≡ bootedOf cat layout k → s ≡ bootedOf cat layout k → r ≡ s
 boot-check-unique cat layout k r s = equal
 
--- the status, and both numbers as they are left
-pub owl-layout-hash-unique : (cat layout : List ℕ) (k budget hash visits r h v s i w : ℕ)
-    → r ≡ summedStatus (summedOf cat layout k budget) → h ≡ hashOr (summedOf cat layout k budget) hash → v ≡ visitsOr (summedOf cat layout k budget) visits
-    → s ≡ summedStatus (summedOf cat layout k budget) → i ≡ hashOr (summedOf cat layout k budget) hash → w ≡ visitsOr (summedOf cat layout k budget) visits
-    → (r ≡ s) × (h ≡ i) × (v ≡ w)
-owl-layout-hash-unique cat layout k budget hash visits r h v s i w er eh ev es ei ew = (equal er es, equal eh ei, equal ev ew)
-
 -- ---- the field cursor: `empty`, and one law for the seven calls that answer a place, whose promise is one equation of the answer,
 -- the table and the names
 
@@ -92,13 +76,6 @@ module _ (promised : Outcome) where
   cursor-call-unique r s t n u m p q =
       let z : outcome r t n ≡ outcome s u m = equal p q in
       (ap (λ (o : Outcome). o .answer) z, ap (λ (o : Outcome). o .table) z, ap (λ (o : Outcome). o .names) z)
-
--- for hosts: the status and the four numbers, the table and the names
-module _ (promised : Hosted) where
-  pub owl-cursor-unique : (a b : Told) (t n u m : List ℕ) → hosted a t n ≡ promised → hosted b u m ≡ promised → (a ≡ b) × (t ≡ u) × (n ≡ m)
-  owl-cursor-unique a b t n u m p q =
-      let z : hosted a t n ≡ hosted b u m = equal p q in
-      (ap (λ (h : Hosted). h .numbers) z, ap (λ (h : Hosted). h .table) z, ap (λ (h : Hosted). h .names) z)
 
 -- ---- the verdict and the lookups
 
@@ -114,23 +91,11 @@ field-by-id-unique cat layout rtype id r s = equal
 pub field-by-name-unique : (cat layout : List ℕ) (rtype : ℕ) (name : List ℕ) (r s : Found) → r ≡ foundByName cat layout rtype name → s ≡ foundByName cat layout rtype name → r ≡ s
 field-by-name-unique cat layout rtype name r s = equal
 
-pub owl-verdict-unique : (cat stream : List ℕ) (k : ℕ) (compiled : List ℕ) (r s : ℕ)
-    → r ≡ judgedStatus (judgedOf cat stream k compiled) → s ≡ judgedStatus (judgedOf cat stream k compiled) → r ≡ s
-owl-verdict-unique cat stream k compiled r s = equal
-
-pub owl-verdict-of-unique : (cat stream : List ℕ) (rtype : ℕ) (compiled : List ℕ) (r s : ℕ)
-    → r ≡ judgedStatus (judgedRtype cat stream rtype compiled) → s ≡ judgedStatus (judgedRtype cat stream rtype compiled) → r ≡ s
-owl-verdict-of-unique cat stream rtype compiled r s = equal
-
 -- ---- selection and planner: the answer, and the room as it is left
 
 pub select-unique : (cat source : List ℕ) (k : ℕ) (target : List ℕ) (wanted : Bool) (schema : ℕ) (r s : Selected)
     → r ≡ selectedOf cat source k target wanted schema → s ≡ selectedOf cat source k target wanted schema → r ≡ s
 select-unique cat source k target wanted schema r s = equal
-
-pub owl-select-unique : (promised : Selected) (number r s n m : ℕ)
-    → r ≡ selectedStatus promised → n ≡ recordOr promised number → s ≡ selectedStatus promised → m ≡ recordOr promised number → (r ≡ s) × (n ≡ m)
-owl-select-unique promised number r s n m er en es em = (equal er es, equal en em)
 
 module _ (cat source : List ℕ) (k : ℕ) (target : List ℕ) (to header : ℕ) (body marks room : List ℕ) where
   abbrev planned : Planned
@@ -142,33 +107,17 @@ module _ (cat source : List ℕ) (k : ℕ) (target : List ℕ) (to header : ℕ)
   pub plan-unique : (r s : Planned) (d e : List ℕ) → r ≡ planned → d ≡ laid → s ≡ planned → e ≡ laid → (r ≡ s) × (d ≡ e)
   plan-unique r s d e er ed es ee = (equal er es, equal ed ee)
 
-  pub owl-plan-unique : (r s : ℕ) (d e : List ℕ) → r ≡ plannedStatus planned → d ≡ laid → s ≡ plannedStatus planned → e ≡ laid → (r ≡ s) × (d ≡ e)
-  owl-plan-unique r s d e er ed es ee = (equal er es, equal ed ee)
-
--- ---- the upgrade: the answer, and the target as it is left; for hosts the status, both numbers and the target
+-- ---- the upgrade: the answer, and the target as it is left
 
 module _ (promised : Upgraded) (left : List ℕ) where
   upgraded-unique : (r s : Upgraded) (d e : List ℕ) → r ≡ promised → d ≡ left → s ≡ promised → e ≡ left → (r ≡ s) × (d ≡ e)
   upgraded-unique r s d e er ed es ee = (equal er es, equal ed ee)
-
-  owl-upgraded-unique : (rtype size r s b a m n : ℕ) (d e : List ℕ)
-      → r ≡ upgradedStatus promised → b ≡ rtypeOr promised rtype → m ≡ sizeOr promised size → d ≡ left
-      → s ≡ upgradedStatus promised → a ≡ rtypeOr promised rtype → n ≡ sizeOr promised size → e ≡ left
-      → (r ≡ s) × (b ≡ a) × (m ≡ n) × (d ≡ e)
-  owl-upgraded-unique rtype size r s b a m n d e er eb em ed es ea en ee = (equal er es, equal eb ea, equal em en, equal ed ee)
 
 module _ (slot src : List ℕ) (stated : ℕ) (dst : List ℕ) where
   pub apply-unique : (r s : Upgraded) (d e : List ℕ)
       → r ≡ appliedOf slot src stated dst → d ≡ afterApply slot src stated dst
       → s ≡ appliedOf slot src stated dst → e ≡ afterApply slot src stated dst → (r ≡ s) × (d ≡ e)
   apply-unique = upgraded-unique (appliedOf slot src stated dst) (afterApply slot src stated dst)
-
-  pub owl-apply-unique : (rtype size r s b a m n : ℕ) (d e : List ℕ)
-      → r ≡ upgradedStatus (appliedOf slot src stated dst) → b ≡ rtypeOr (appliedOf slot src stated dst) rtype → m ≡ sizeOr (appliedOf slot src stated dst) size
-      → d ≡ afterApply slot src stated dst
-      → s ≡ upgradedStatus (appliedOf slot src stated dst) → a ≡ rtypeOr (appliedOf slot src stated dst) rtype → n ≡ sizeOr (appliedOf slot src stated dst) size
-      → e ≡ afterApply slot src stated dst → (r ≡ s) × (b ≡ a) × (m ≡ n) × (d ≡ e)
-  owl-apply-unique = owl-upgraded-unique (appliedOf slot src stated dst) (afterApply slot src stated dst)
 
 module _ (plans unplanned : List ℕ) (rtype srcHeader dstHeader : ℕ) (src : List ℕ) (stated : ℕ) (dst : List ℕ) where
   abbrev answered : Upgraded
@@ -180,37 +129,17 @@ module _ (plans unplanned : List ℕ) (rtype srcHeader dstHeader : ℕ) (src : L
   pub upgrade-unique : (r s : Upgraded) (d e : List ℕ) → r ≡ answered → d ≡ kept → s ≡ answered → e ≡ kept → (r ≡ s) × (d ≡ e)
   upgrade-unique = upgraded-unique answered kept
 
-  pub owl-upgrade-unique : (became size r s b a m n : ℕ) (d e : List ℕ)
-      → r ≡ upgradedStatus answered → b ≡ rtypeOr answered became → m ≡ sizeOr answered size → d ≡ kept
-      → s ≡ upgradedStatus answered → a ≡ rtypeOr answered became → n ≡ sizeOr answered size → e ≡ kept
-      → (r ≡ s) × (b ≡ a) × (m ≡ n) × (d ≡ e)
-  owl-upgrade-unique = owl-upgraded-unique answered kept
-
 -- ---- plan text
 
 pub check-plan-unique : (plan : List ℕ) (r s : Admitted) → r ≡ checkedOf plan → s ≡ checkedOf plan → r ≡ s
 check-plan-unique plan r s = equal
 
-pub owl-check-plan-unique : (plan : List ℕ) (r s : ℕ) → r ≡ statusOf (checkedOf plan) → s ≡ statusOf (checkedOf plan) → r ≡ s
-owl-check-plan-unique plan r s = equal
-
 pub write-plan-unique : (plan text : List ℕ) (r s : Written) (a b : List ℕ)
     → r ≡ writtenOf plan text → a ≡ afterWriting plan text → s ≡ writtenOf plan text → b ≡ afterWriting plan text → (r ≡ s) × (a ≡ b)
 write-plan-unique plan text r s a b er ea es eb = (equal er es, equal ea eb)
-
-pub owl-write-plan-unique : (plan text : List ℕ) (length r n s m : ℕ) (a b : List ℕ)
-    → r ≡ writtenStatus (writtenOf plan text) → a ≡ afterWriting plan text → n ≡ lengthOr (writtenOf plan text) length
-    → s ≡ writtenStatus (writtenOf plan text) → b ≡ afterWriting plan text → m ≡ lengthOr (writtenOf plan text) length
-    → (r ≡ s) × (a ≡ b) × (n ≡ m)
-owl-write-plan-unique plan text length r n s m a b er ea en es eb em = (equal er es, equal ea eb, equal en em)
 
 pub read-plan-unique : (text plan : List ℕ) (r s : ReadPlan) (a b : List ℕ) → Reads text plan r a → Reads text plan s b → (r ≡ s) × (a ≡ b)
 read-plan-unique text plan r s a b p q =
     let x = reads-one text plan r a p in
     let y = reads-one text plan s b q in
     (equal (x .0) (y .0), equal (x .1) (y .1))
-
-pub owl-read-plan-unique : (text plan : List ℕ) (r s : ℕ) (a b : List ℕ) → ReadsAs text plan r a → ReadsAs text plan s b → (r ≡ s) × (a ≡ b)
-owl-read-plan-unique text plan r s a b p q =
-    let z = read-plan-unique text plan (p .answer) (q .answer) a b (p .kept) (q .kept) in
-    (p .told ∙ ap readStatus (z .0) ∙ sym (q .told), z .1)

@@ -5,7 +5,6 @@ use mathlib.Core.List.{List}
 use lib.Dec.{leb, ltb, eqb}
 use lib.ListN.{length}
 use Rattle.limits.specs.Limits.{maxFields, defaultBudget}
-use Rattle.limits.specs.Refusal.{numberOf}
 use Rattle.limits.specs.declared.refusal.Refusal.{Refusal}
 use Rattle.limits.specs.declared.refusal.Refusal.the-variants.{BadShape, ReservedByte}
 use Rattle.lent.specs.Bytes.{hasWindow}
@@ -55,22 +54,6 @@ unfoldable pub summedOf : List ℕ → List ℕ → ℕ → ℕ → Summed
 summedOf cat l k budget =
     orSummed (admitOf cat l)
     (cond (ltb k (countOf Record l)) (asSummed (hashOf cat l budget (fieldsOf (recordAt l (8 + 72 * k) .table)))) NoSum)
-
--- for hosts: the status, 255 where there is no such record, and what the two numbers lent become
-abbrev pub summedStatus : Summed → ℕ
-summedStatus (Hash fp visits) = 0
-summedStatus NoSum = 255
-summedStatus (Unsummed refusal) = numberOf refusal
-
-abbrev pub hashOr : Summed → ℕ → ℕ
-hashOr (Hash fp visits) found = fp
-hashOr NoSum found = found
-hashOr (Unsummed refusal) found = found
-
-abbrev pub visitsOr : Summed → ℕ → ℕ
-visitsOr (Hash fp visits) found = visits
-visitsOr NoSum found = found
-visitsOr (Unsummed refusal) found = found
 
 -- is it the hash that record k stores?
 abbrev pub asBooted : ℕ → Summed → Booted

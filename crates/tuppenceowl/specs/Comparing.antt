@@ -3,7 +3,6 @@ use Prim.Native.Nat.{ℕ, _+_, _*_}
 use mathlib.Core.Bool.{Bool, cond}
 use mathlib.Core.List.{List}
 use lib.Dec.{ltb}
-use Rattle.limits.specs.Refusal.{numberOf}
 use Rattle.layout.specs.Layout.{countOf}
 use Rattle.layout.specs.Find.{lastOf, atPlace}
 use Rattle.layout.specs.declared.block.Holder.the-variants.{Record}
@@ -11,8 +10,6 @@ use Rattle.admission.specs.Admission.{admitOf, admitBoth}
 use Rattle.admission.specs.declared.Admitted.{Admitted}
 use Rattle.admission.specs.declared.Admitted.the-variants.{Fine, Refused}
 use Rattle.compare.specs.Compare.{verdictOf}
-use Rattle.compare.specs.declared.answer.Verdict.{Verdict}
-use Rattle.compare.specs.declared.answer.Verdict.the-variants.{Compiled, Dynamic}
 use Rattle.index.specs.Index.{byId, byName}
 use Rattle.index.specs.declared.Lookup.{Lookup}
 use Rattle.index.specs.declared.Lookup.the-variants.{Def, Missing}
@@ -35,16 +32,6 @@ judgedOf cat s k c =
 unfoldable pub judgedRtype : List ℕ → List ℕ → ℕ → List ℕ → Judged
 judgedRtype cat s rtype c =
     orJudged (admitBoth cat s c) (atPlace (lastOf s rtype) NoRecord (λ h. Is (verdictOf cat s h c)))
-
--- for hosts
-abbrev pub verdictStatus : Verdict → ℕ
-verdictStatus Compiled = 0
-verdictStatus Dynamic = 254
-
-abbrev pub judgedStatus : Judged → ℕ
-judgedStatus (Is verdict) = verdictStatus verdict
-judgedStatus NoRecord = 255
-judgedStatus (Unjudged refusal) = numberOf refusal
 
 abbrev pub asFound : Lookup → Found
 asFound (Def f) = Field f

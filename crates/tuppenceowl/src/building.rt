@@ -4,7 +4,6 @@ ghost use mathlib.Core.Path.{_≡_};
 ghost use Rattle.builders.specs.Cursor.{fresh, building, outcome};
 ghost use Rattle.calls.specs.Calls.{scalarOf, stringOf, likeOf, nestedOf, atOf, finishBaseOf};
 ghost use Rattle.finishing.specs.Finish.{finishOf};
-ghost use Rattle.tuppenceowl.specs.Hosted.{stateIn, told, toldOf, hosted, hostedOf};
 use builders::FieldCursor;
 use builders::Placed;
 use builders::Times;
@@ -111,87 +110,4 @@ pub fn finish(cat: &[u8], table: &mut [u8], names: &mut [u8], c: FieldCursor, id
     ensures { λ r. ⌜ outcome r (now (table .exit)) (now (names .exit)) ≡ finishOf (now (cat .entry)) (now (ids .entry)) (building c (now (table .entry)) (now (names .entry))) ⌝ }
 {
     finishing::finish(cat, table, names, c, ids)
-}
-
-// ---- for hosts in C and Rust: the state is five numbers, of which four are lent; the status is 0 or the refusal's number
-
-fn tell(p: Placed, count: &mut usize, cursor: &mut usize, base: &mut usize, noted: &mut usize) -> u8
-    ensures { λ r. ⌜ told r (now (count .exit)) (now (cursor .exit)) (now (base .exit)) (now (noted .exit)) ≡ toldOf p (now (count .entry)) (now (cursor .entry)) (now (base .entry)) (now (noted .entry)) ⌝ }
-{
-    match p {
-        Placed::At(c) => {
-            *count = c.count;
-            *cursor = c.cursor;
-            *base = c.base;
-            *noted = lent::wide8(lent::one(c.based));
-            0
-        }
-        Placed::Refused(refusal) => limits::refusal::number(refusal),
-    }
-}
-
-#[no_mangle]
-pub extern "C" fn owl_cursor_scalar(
-    cat: &[u8],
-    table: &mut [u8],
-    names: &mut [u8],
-    most: usize,
-    count: &mut usize,
-    cursor: &mut usize,
-    base: &mut usize,
-    noted: &mut usize,
-    field_id: u16,
-    type_id: u8,
-    size: u16,
-    flags: u8,
-    def_index: u16,
-    name: &[u8],
-) -> u8
-    ensures { λ r. ⌜ hosted (told r (now (count .exit)) (now (cursor .exit)) (now (base .exit)) (now (noted .exit))) (now (table .exit)) (now (names .exit)) ≡ hostedOf (scalarOf (now (cat .entry)) «field_id» «type_id» size flags «def_index» (now (name .entry)) (building (stateIn most (now (count .entry)) (now (cursor .entry)) (now (base .entry)) (now (noted .entry))) (now (table .entry)) (now (names .entry)))) (now (count .entry)) (now (cursor .entry)) (now (base .entry)) (now (noted .entry)) ⌝ }
-{
-    let c = FieldCursor {
-        most,
-        count: *count,
-        cursor: *cursor,
-        base: *base,
-        based: *noted != 0,
-    };
-    let p = scalar(
-        cat,
-        table,
-        names,
-        c,
-        field_id,
-        type_id,
-        size,
-        flags,
-        def_index,
-        name,
-    );
-    tell(p, count, cursor, base, noted)
-}
-
-#[no_mangle]
-pub extern "C" fn owl_cursor_finish(
-    cat: &[u8],
-    table: &mut [u8],
-    names: &mut [u8],
-    most: usize,
-    count: &mut usize,
-    cursor: &mut usize,
-    base: &mut usize,
-    noted: &mut usize,
-    ids: &[u16],
-) -> u8
-    ensures { λ r. ⌜ hosted (told r (now (count .exit)) (now (cursor .exit)) (now (base .exit)) (now (noted .exit))) (now (table .exit)) (now (names .exit)) ≡ hostedOf (finishOf (now (cat .entry)) (now (ids .entry)) (building (stateIn most (now (count .entry)) (now (cursor .entry)) (now (base .entry)) (now (noted .entry))) (now (table .entry)) (now (names .entry)))) (now (count .entry)) (now (cursor .entry)) (now (base .entry)) (now (noted .entry)) ⌝ }
-{
-    let c = FieldCursor {
-        most,
-        count: *count,
-        cursor: *cursor,
-        base: *base,
-        based: *noted != 0,
-    };
-    let p = finish(cat, table, names, c, ids);
-    tell(p, count, cursor, base, noted)
 }

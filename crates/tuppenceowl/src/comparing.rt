@@ -1,8 +1,7 @@
 // The verdict and the lookups. Every layout that is read has passed all of admission.
 ghost use mathlib.Core.Path.{_≡_};
-ghost use Rattle.tuppenceowl.specs.Comparing.{asFound, judgedOf, judgedRtype, judgedStatus, foundById, foundByName};
+ghost use Rattle.tuppenceowl.specs.Comparing.{asFound, judgedOf, judgedRtype, foundById, foundByName};
 use crate::Found;
-use crate::hashing::NO_RECORD;
 use admission::Admitted;
 use compare::answer::Verdict;
 use index::Lookup;
@@ -11,9 +10,6 @@ use layout::block::Holder;
 use layout::find;
 use layout::find::Place;
 use limits::refusal::Refusal;
-
-// A host's status of a record that is read field by field.
-pub const DYNAMIC: u8 = 254;
 
 pub enum Judged {
     Is(Verdict),
@@ -77,33 +73,4 @@ pub fn field_by_name(cat: &[u8], layout: &[u8], rtype: u16, name: &[u8]) -> Foun
         Admitted::Refused(refusal) => Found::Refused(refusal),
         Admitted::Fine => as_found(index::field_by_name(cat, layout, rtype, name)),
     }
-}
-
-// ---- for hosts in C and Rust: 0 is compiled, 254 dynamic, 255 that there is no such record, and else a refusal's number
-
-fn status(judged: Judged) -> u8
-    ensures { λ r. ⌜ r ≡ judgedStatus judged ⌝ }
-{
-    match judged {
-        Judged::Is(verdict) => match verdict {
-            Verdict::Compiled => 0,
-            Verdict::Dynamic => DYNAMIC,
-        },
-        Judged::NoRecord => NO_RECORD,
-        Judged::Refused(refusal) => limits::refusal::number(refusal),
-    }
-}
-
-#[no_mangle]
-pub extern "C" fn owl_verdict(cat: &[u8], stream: &[u8], k: usize, compiled: &[u8]) -> u8
-    ensures { λ r. ⌜ r ≡ judgedStatus (judgedOf (now (cat .entry)) (now (stream .entry)) k (now (compiled .entry))) ⌝ }
-{
-    status(verdict(cat, stream, k, compiled))
-}
-
-#[no_mangle]
-pub extern "C" fn owl_verdict_of(cat: &[u8], stream: &[u8], rtype: u16, compiled: &[u8]) -> u8
-    ensures { λ r. ⌜ r ≡ judgedStatus (judgedRtype (now (cat .entry)) (now (stream .entry)) rtype (now (compiled .entry))) ⌝ }
-{
-    status(verdict_of(cat, stream, rtype, compiled))
 }

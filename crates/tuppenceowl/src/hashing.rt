@@ -3,15 +3,12 @@ ghost use mathlib.Core.Path.{_≡_};
 ghost use Rattle.limits.specs.Limits.{defaultBudget};
 ghost use Rattle.crc64.specs.Avro.{fingerprint};
 ghost use Rattle.hash.specs.Hash.{hashOf};
-ghost use Rattle.tuppenceowl.specs.Answers.{asSummed, summedOf, bootedOf, summedStatus, hashOr, visitsOr};
+ghost use Rattle.tuppenceowl.specs.Answers.{asSummed, summedOf, bootedOf};
 use admission::Admitted;
 use hash::Hashed;
 use layout::block;
 use layout::block::Holder;
 use limits::refusal::Refusal;
-
-// A host's status where there is no such record.
-pub const NO_RECORD: u8 = 255;
 
 pub enum Summed {
     // The hash, and the visits used.
@@ -81,39 +78,5 @@ pub fn boot_check(cat: &[u8], layout: &[u8], k: usize) -> Booted
         }
         Summed::NoRecord => Booted::NoRecord,
         Summed::Refused(refusal) => Booted::Refused(refusal),
-    }
-}
-
-// ---- for hosts in C and Rust
-
-#[no_mangle]
-pub extern "C" fn owl_sum(bytes: &[u8]) -> u64
-    ensures { λ r. ⌜ r ≡ fingerprint (now (bytes .entry)) ⌝ }
-{
-    crc64::sum(bytes)
-}
-
-// 0, the refusal's number, or 255 where there is no record k; the hash and the visits go where the host says.
-#[no_mangle]
-pub extern "C" fn owl_layout_hash(
-    cat: &[u8],
-    layout: &[u8],
-    k: usize,
-    budget: usize,
-    hash: &mut u64,
-    visits: &mut usize,
-) -> u8
-    ensures status { λ r. ⌜ r ≡ summedStatus (summedOf (now (cat .entry)) (now (layout .entry)) k budget) ⌝ }
-    ensures hash { λ r. ⌜ now (hash .exit) ≡ hashOr (summedOf (now (cat .entry)) (now (layout .entry)) k budget) (now (hash .entry)) ⌝ }
-    ensures visits { λ r. ⌜ now (visits .exit) ≡ visitsOr (summedOf (now (cat .entry)) (now (layout .entry)) k budget) (now (visits .entry)) ⌝ }
-{
-    match layout_hash_within(cat, layout, k, budget) {
-        Summed::Hash(fp, used) => {
-            *hash = fp;
-            *visits = used;
-            0
-        }
-        Summed::NoRecord => NO_RECORD,
-        Summed::Refused(refusal) => limits::refusal::number(refusal),
     }
 }

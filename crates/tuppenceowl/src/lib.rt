@@ -7,7 +7,7 @@ pub mod texting;
 pub mod upgrading;
 
 ghost use mathlib.Core.Path.{_≡_};
-ghost use Rattle.admission.specs.Admission.{admitCatalogue, admitOf, statusOf};
+ghost use Rattle.admission.specs.Admission.{admitCatalogue, admitOf};
 ghost use Rattle.tuppenceowl.specs.Answers.{aloneOk, sizedOf, windowedOf, foundOf};
 pub use admission::Admitted;
 use field::FieldDef;
@@ -96,29 +96,4 @@ pub fn field_of(table: &[u8], k: usize) -> Found
         return Found::Field(field::field_in(table, field::SIZE * k));
     }
     Found::NoField
-}
-
-// ---- for hosts in C and Rust: 0, or the refusal's number
-
-fn status(answer: Admitted) -> u8
-    ensures { λ r. ⌜ r ≡ statusOf answer ⌝ }
-{
-    match answer {
-        Admitted::Fine => 0,
-        Admitted::Refused(refusal) => limits::refusal::number(refusal),
-    }
-}
-
-#[no_mangle]
-pub extern "C" fn owl_check_catalogue(cat: &[u8]) -> u8
-    ensures { λ r. ⌜ r ≡ statusOf (admitCatalogue (now (cat .entry))) ⌝ }
-{
-    status(check_catalogue(cat))
-}
-
-#[no_mangle]
-pub extern "C" fn owl_admit(cat: &[u8], layout: &[u8]) -> u8
-    ensures { λ r. ⌜ r ≡ statusOf (admitOf (now (cat .entry)) (now (layout .entry))) ⌝ }
-{
-    status(admit(cat, layout))
 }

@@ -1,11 +1,9 @@
 // Plan text, and the check of a plan. A plan is handed over in a slot of lent bytes.
 ghost use mathlib.Core.Path.{_≡_};
-ghost use Rattle.admission.specs.Admission.{statusOf};
 ghost use Rattle.plan_text.specs.Writing.{writtenOf, afterWriting};
 ghost use Rattle.plan_read.specs.Reading.{Reads};
-ghost use Rattle.tuppenceowl.specs.Texting.{checkedOf, writtenStatus, lengthOr, ReadsAs};
+ghost use Rattle.tuppenceowl.specs.Texting.{checkedOf};
 use admission::Admitted;
-use limits::refusal;
 use limits::refusal::Refusal;
 use plan_read::reader;
 use plan_read::reader::ReadPlan;
@@ -34,41 +32,4 @@ pub fn read_plan(text: &[u8], plan: &mut [u8]) -> ReadPlan
     ensures { λ r. ⌜ Reads (now (text .entry)) (now (plan .entry)) r (now (plan .exit)) ⌝ }
 {
     reader::read_plan(text, plan)
-}
-
-// 0 or the refusal's number.
-#[no_mangle]
-pub extern "C" fn owl_check_plan(plan: &[u8]) -> u8
-    ensures { λ r. ⌜ r ≡ statusOf (checkedOf (now (plan .entry))) ⌝ }
-{
-    match check_plan(plan) {
-        Admitted::Fine => 0,
-        Admitted::Refused(why) => refusal::number(why),
-    }
-}
-
-// The text's length goes where the host says.
-#[no_mangle]
-pub extern "C" fn owl_write_plan(plan: &[u8], text: &mut [u8], length: &mut usize) -> u8
-    ensures status { λ r. ⌜ r ≡ writtenStatus (writtenOf (now (plan .entry)) (now (text .entry))) ⌝ }
-    ensures text { λ r. ⌜ now (text .exit) ≡ afterWriting (now (plan .entry)) (now (text .entry)) ⌝ }
-    ensures length { λ r. ⌜ now (length .exit) ≡ lengthOr (writtenOf (now (plan .entry)) (now (text .entry))) (now (length .entry)) ⌝ }
-{
-    match write_plan(plan, text) {
-        Written::Length(n) => {
-            *length = n;
-            0
-        }
-        Written::Refused(why) => refusal::number(why),
-    }
-}
-
-#[no_mangle]
-pub extern "C" fn owl_read_plan(text: &[u8], plan: &mut [u8]) -> u8
-    ensures { λ r. ⌜ ReadsAs (now (text .entry)) (now (plan .entry)) r (now (plan .exit)) ⌝ }
-{
-    match read_plan(text, plan) {
-        ReadPlan::Read => 0,
-        ReadPlan::Refused(why) => refusal::number(why),
-    }
 }

@@ -1,0 +1,9 @@
+pub mod Status
+pub mod Admitting
+pub mod Finding
+pub mod Hashing
+pub mod Comparing
+pub mod Building
+pub mod Planning
+pub mod Upgrading
+pub mod Texting
