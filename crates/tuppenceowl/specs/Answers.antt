@@ -1,11 +1,10 @@
 -- What each public call answers, of any bytes and numbers.
 use Prim.Native.Nat.{ℕ, _+_, _*_, _/_, _%_}
-use mathlib.Core.Bool.{Bool, true, false, cond, _&&_}
+use mathlib.Core.Bool.{Bool, cond, _&&_}
 use mathlib.Core.List.{List}
 use lib.Dec.{leb, ltb, eqb}
 use lib.ListN.{length}
 use Rattle.limits.specs.Limits.{maxFields, defaultBudget}
-use Rattle.limits.specs.declared.refusal.Refusal.{Refusal}
 use Rattle.limits.specs.declared.refusal.Refusal.the-variants.{BadShape, ReservedByte}
 use Rattle.lent.specs.Bytes.{hasWindow}
 use Rattle.lent.specs.Scan.{every}

@@ -1,6 +1,6 @@
 -- What the verdict and the lookups answer, of any bytes and numbers.
 use Prim.Native.Nat.{ℕ, _+_, _*_}
-use mathlib.Core.Bool.{Bool, cond}
+use mathlib.Core.Bool.{cond}
 use mathlib.Core.List.{List}
 use lib.Dec.{ltb}
 use Rattle.layout.specs.Layout.{countOf}

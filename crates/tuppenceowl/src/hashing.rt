@@ -2,7 +2,6 @@
 ghost use mathlib.Core.Path.{_≡_};
 ghost use Rattle.limits.specs.Limits.{defaultBudget};
 ghost use Rattle.crc64.specs.Avro.{fingerprint};
-ghost use Rattle.hash.specs.Hash.{hashOf};
 ghost use Rattle.tuppenceowl.specs.Answers.{asSummed, summedOf, bootedOf};
 use admission::Admitted;
 use hash::Hashed;

@@ -5,7 +5,7 @@ use mathlib.Core.Path.{_≡_, _∙_, ap}
 use Rattle.builders.specs.Cursor.{Building, building, Outcome, outcome}
 use Rattle.builders.specs.declared.FieldCursor.{FieldCursor}
 use Rattle.builders.specs.declared.Placed.{Placed}
-use Rattle.tuppenceowl_c.specs.Building.{stateIn, lentTo, placedStatus, stateOr, Hosted, hosted, hostedOf}
+use Rattle.tuppenceowl_c.specs.Building.{stateIn, lentTo, placedStatus, stateOr, hosted, hostedOf}
 
 pub telling : (call : Building → Outcome) (s t ns : List ℕ) {u v ms : List ℕ} {c : FieldCursor} {p : Placed} {r : ℕ}
     → c ≡ stateIn s → outcome p v ms ≡ call (building c t ns) → (r ≡ placedStatus p) × (u ≡ stateOr p s)
