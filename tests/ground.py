@@ -12,6 +12,7 @@ import os, random, struct, subprocess, sys
 
 from building_cases import buildings
 from comparing_cases import comparings, recorded_pairs
+from cutting_cases import cuttings
 from model import *
 from model_upgrade import Slots
 from text_cases import texts as plan_texts
@@ -448,7 +449,7 @@ def recorded(c):
 def fixed():
     c = Cases()
     for part_of_list in (catalogues, pairs, shapes, limits, overlaps, widths, sizes, windows, fields, hashes, recorded, comparings, recorded_pairs, buildings, plannings,
-                         upgradings, plan_texts):
+                         upgradings, cuttings, plan_texts):
         if part_of_list is not catalogues and not valid(c.cat):
             c.catalogue("a valid catalogue", 0, catalogue())
         part_of_list(c)

@@ -23,7 +23,8 @@ use Rattle.plan.specs.declared.rule.Carried.the-variants.{By}
 use Rattle.mapping.specs.Mapping.{integerOf, mapped, mapInt}
 use Rattle.interpreter.specs.Run.{carried, upgraded}
 use Rattle.rule.specs.Body.{ruleByte, ruleBody, valueOf}
-use Rattle.rule.proofs.Stores.{length-bytewise, byte-bytewise, length-carried}
+use Rattle.interpreter.proofs.Runs.{length-carried}
+use Rattle.rule.proofs.Stores.{length-bytewise, byte-bytewise}
 use Rattle.rule.proofs.Planned.{Within, stepOf-within}
 use Rattle.rule.proofs.Values.{every-at, rule-out, value-at, number-window, number-front}
 use Rattle.demand.specs.Demand.{Planned, Recuts}

@@ -23,7 +23,7 @@ use Rattle.plan.specs.declared.rule.Carried.the-variants.{By, Default}
 use Rattle.interpreter.specs.Run.{carried, reaches}
 use Rattle.rule.specs.Bytewise.{stepByte}
 use Rattle.rule.specs.Body.{defs, holds, carriedByte, ruleByte, valueOf}
-use Rattle.rule.proofs.Stores.{length-carried}
+use Rattle.interpreter.proofs.Runs.{length-carried}
 use Rattle.rule.proofs.Planned.{If, Within, stepOf-within, holds-is, holds-not}
 
 -- ---- the byte of a field is that of its own step
