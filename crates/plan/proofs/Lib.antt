@@ -1,3 +1,4 @@
 pub mod Joining
 pub mod Planning
+pub mod Firsts
 pub mod Indexed

@@ -1,12 +1,12 @@
 // Where a source's first field of an id stands: an index by the low byte of the id, which tells most ids of a table apart.
 ghost use mathlib.Core.Path.{_≡_};
-ghost use Prim.Native.Nat.{_*_, _≤_};
-ghost use lib.ListN.{length};
+ghost use Prim.Native.Nat.{_*_, _%_, _<_, _≤_};
+ghost use lib.ListN.{length, getD};
 ghost use Rattle.limits.specs.Limits.{maxFields};
 ghost use Rattle.field.specs.Field.{fieldsOf};
 ghost use Rattle.plan.specs.Places.{placeOf, IndexOf};
 
-// A place is a byte, one more than it is: 0 is none.
+// A place as the index holds it: one more than it is, since 0 is none.
 fn in_a_byte(n: usize) -> u8
     requires { ⌜ n ≤ maxFields ⌝ }
     ensures { λ r. ⌜ r ≡ n ⌝ }
@@ -46,13 +46,20 @@ fn scan(t: &[u8], id: u16) -> usize
     0
 }
 
+// What the index has for an id.
+fn entry_of(index: &[u8; 256], id: u16) -> usize
+    ensures { λ r. ⌜ (r ≡ getD (now (index .entry)) (id % 256) 0) × (r < 256) ⌝ }
+{
+    let low = lent::wide8(lent::store::low(id));
+    lent::wide8(index[low])
+}
+
 // One more than the place, 0 where there is none. Two ids of one low byte are rare: only then is the table searched.
 pub fn find(t: &[u8], index: &[u8; 256], id: u16) -> usize
     requires { ⌜ IndexOf (fieldsOf (now t)) (now index) ⌝ }
     ensures { λ r. ⌜ r ≡ placeOf id (fieldsOf (now (t .entry))) ⌝ }
 {
-    let low = lent::wide8(lent::store::low(id));
-    let place = lent::wide8(index[low]);
+    let place = entry_of(index, id);
     if place == 0 {
         return 0;
     }

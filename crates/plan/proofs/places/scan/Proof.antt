@@ -5,7 +5,7 @@ use borrow.Author.Tests.{eq-eqb, ne-eqb}
 use mathlib.Core.Path.{_∙_, _≡_, ap, refl, sym}
 use native.Mathlib.Omega.{arith}
 use Rattle.field.specs.Field.{fieldAt, fieldsOf}
-use Rattle.plan.proofs.Indexed.{fieldsFrom, from-start, place-here, place-later, place-nowhere}
+use Rattle.plan.proofs.Firsts.{fieldsFrom, from-start, place-here, place-later, place-nowhere}
 use Rattle.plan.specs.Places.{hasId, placeFrom, placeOf}
 use Rattle.plan.proofs.places.scan.Statement.{statement}
 use Rattle.plan.proofs.places.scan.Tie as tie
