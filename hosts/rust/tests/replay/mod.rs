@@ -1,4 +1,4 @@
-//! A line of cases answered by the crate's calls, in the words of the case runner (README.md of the repository, "Try it").
+//! A line of cases answered by the crate's calls, in the words of the case runner (docs/CASES.md of the repository).
 mod cursor;
 mod layouts;
 mod line;
