@@ -31,19 +31,20 @@ fn in_two_bytes(n: usize) -> u16
     n as u16
 }
 
-// The plan between the records whose heads begin at `from` and `to`, laid into the room that is lent for it.
+// The plan between the records whose heads begin at `from` and `to`, laid into the room that is lent for it; `size` is the target's record size.
 fn lay(
     cat: &[u8],
     source: &[u8],
     from: usize,
     target: &[u8],
     to: usize,
+    size: usize,
     header: usize,
     body: &[u8],
     marks: &[u8],
     room: &mut [u8],
 )
-    requires { ⌜ (from < 4000000000) × (to < 4000000000) × (header ≤ maxHeader) × (recordAt (now source) from .base ≤ maxBytes) × (recordSize (recordAt (now target) to) ≤ maxBytes) × (length (recordAt (now target) to .table) ≤ 16 * maxFields) × (length (now body) ≤ maxBytes) × (slotSize ≤ length (now room)) × (length (recordAt (now source) from .table) ≤ 16 * maxFields) ⌝ }
+    requires { ⌜ (from < 4000000000) × (to < 4000000000) × (header ≤ maxHeader) × (recordAt (now source) from .base ≤ maxBytes) × (recordSize (recordAt (now target) to) ≤ maxBytes) × (length (recordAt (now target) to .table) ≤ 16 * maxFields) × (length (now body) ≤ maxBytes) × (slotSize ≤ length (now room)) × (length (recordAt (now source) from .table) ≤ 16 * maxFields) × (size ≡ recordSize (recordAt (now target) to)) ⌝ }
     ensures { λ r. ⌜ now (room .exit) ≡ laidBetween (now (cat .entry)) (recordAt (now (source .entry)) from) (recordAt (now (target .entry)) to) header (now (body .entry)) (now (marks .entry)) (now (room .entry)) ⌝ }
 {
     let bases = Bases {
@@ -59,7 +60,7 @@ fn lay(
         src_base: in_two_bytes(bases.source),
         header: in_two_bytes(header),
         base: in_two_bytes(bases.target),
-        size: in_two_bytes(layout::size::record_size(target, to)),
+        size: in_two_bytes(size),
     };
     slot::pack::pack(
         UpgradePlan {
@@ -96,7 +97,7 @@ fn between(
     if room.len() < slot::SIZE {
         return Planned::Refused(Refusal::NoRoom);
     }
-    lay(cat, source, from, target, to, header, body, marks, room);
+    lay(cat, source, from, target, to, size, header, body, marks, room);
     Planned::Made
 }
 

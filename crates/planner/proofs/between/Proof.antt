@@ -56,7 +56,7 @@ lay-requires c κs =
     let h = header-fits (a .cat .now) (a .header) (c .before .before .before .before .before .before .record-size .result) (fieldsOf (c .before .before .before .before .before .before .before .table-at .result .now)) (sym (c .before .before .before .before .before .header-ok .ensures) ∙ not-false (c .before .before .before .before .before .header-ok .result) (c .before .before .before .before .if1 .left)) in
     let b = body-fits (a .cat .now) (a .header) (c .before .before .before .before .before .before .record-size .result) (fieldsOf (c .before .before .before .before .before .before .before .table-at .result .now)) _ (a .body .now) (sym (c .before .before .before .defaults-ok .ensures) ∙ not-false (c .before .before .before .defaults-ok .result) (c .before .before .if2 .left)) in
     let n : c .before .before .before .before .before .before .record-size .result ≤ maxBytes = rw (c .before .before .before .before .before .before .record-size .ensures) (c .before .before .before .before .before .before .before .before .before .before .before .before .before .before .pre .3) in
-    (c .before .before .before .before .before .before .before .before .before .before .before .before .before .before .pre .0, c .before .before .before .before .before .before .before .before .before .before .before .before .before .before .pre .1, h .0, c .before .before .before .before .before .before .before .before .before .before .before .before .before .before .pre .2, c .before .before .before .before .before .before .before .before .before .before .before .before .before .before .pre .3, c .before .before .before .before .before .before .before .before .before .before .before .before .before .before .pre .4, omega (arith, b, n), c .before .if3 .left, c .before .before .before .before .before .before .before .before .before .before .before .before .before .before .pre .5)
+    (c .before .before .before .before .before .before .before .before .before .before .before .before .before .before .pre .0, c .before .before .before .before .before .before .before .before .before .before .before .before .before .before .pre .1, h .0, c .before .before .before .before .before .before .before .before .before .before .before .before .before .before .pre .2, c .before .before .before .before .before .before .before .before .before .before .before .before .before .before .pre .3, c .before .before .before .before .before .before .before .before .before .before .before .before .before .before .pre .4, omega (arith, b, n), c .before .if3 .left, c .before .before .before .before .before .before .before .before .before .before .before .before .before .before .pre .5, c .before .before .before .before .before .before .record-size .ensures)
 
 same-length : tie.Need-same-length
 same-length c = search needs

@@ -1,6 +1,6 @@
+use Rattle.planner.specs.Planner.{planBetween}
 use borrow.Author.Needs.{needs}
 use native.Mathlib.Omega.{arith}
-use Rattle.planner.specs.Planner.{planBetween}
 use Rattle.planner.proofs.lay.Statement.{statement}
 use Rattle.planner.proofs.lay.Tie as tie
 
@@ -17,7 +17,8 @@ table-at-requires-2 : tie.Need-table-at-requires-2
 table-at-requires-2 c κs = search needs
 
 planned-requires : tie.Need-planned-requires
-planned-requires c κs = (rw (c .table-at2 .ensures) (c .before .before .before .before .before .before .before .before .before .before .pre .5), omega (arith, c .before .before .before .record-base .ensures, c .before .before .before .before .before .before .before .before .before .before .pre .3), rw (c .before .table-at .ensures) (c .before .before .before .before .before .before .before .before .before .before .pre .8))
+planned-requires c κs =
+    (rw (c .table-at2 .ensures) (c .before .before .before .before .before .before .before .before .before .before .pre .5), omega (arith, c .before .before .before .record-base .ensures, c .before .before .before .before .before .before .before .before .before .before .pre .3), rw (c .before .table-at .ensures) (c .before .before .before .before .before .before .before .before .before .before .pre .8))
 
 record-rtype-requires : tie.Need-record-rtype-requires
 record-rtype-requires c κs = search needs
@@ -26,22 +27,24 @@ record-rtype-requires-2 : tie.Need-record-rtype-requires-2
 record-rtype-requires-2 c κs = search needs
 
 in-two-bytes-requires : tie.Need-in-two-bytes-requires
-in-two-bytes-requires c κs = omega (arith, c .before .before .before .before .before .before .record-base .ensures, c .before .before .before .before .before .before .before .before .before .before .before .before .before .pre .3)
+in-two-bytes-requires c κs =
+    omega (arith, c .before .before .before .before .before .before .record-base .ensures, c .before .before .before .before .before .before .before .before .before .before .before .before .before .pre .3)
 
 in-two-bytes-requires-2 : tie.Need-in-two-bytes-requires-2
-in-two-bytes-requires-2 c κs = omega (arith, c .before .before .before .before .before .before .before .before .before .before .before .before .before .before .pre .2)
+in-two-bytes-requires-2 c κs =
+    omega (arith, c .before .before .before .before .before .before .before .before .before .before .before .before .before .before .pre .2)
 
 in-two-bytes-requires-3 : tie.Need-in-two-bytes-requires-3
-in-two-bytes-requires-3 c κs = omega (arith, c .before .before .before .before .before .before .before .record-base2 .ensures, c .before .before .before .before .before .before .before .before .before .before .before .before .before .before .before .pre .4)
-
-record-size-requires : tie.Need-record-size-requires
-record-size-requires c κs = search needs
+in-two-bytes-requires-3 c κs =
+    omega (arith, c .before .before .before .before .before .before .before .record-base2 .ensures, c .before .before .before .before .before .before .before .before .before .before .before .before .before .before .before .pre .4)
 
 in-two-bytes-requires-4 : tie.Need-in-two-bytes-requires-4
-in-two-bytes-requires-4 c κs = omega (arith, c .record-size .ensures, c .before .before .before .before .before .before .before .before .before .before .before .before .before .before .before .before .before .pre .4)
+in-two-bytes-requires-4 c κs =
+    omega (arith, c .before .before .before .before .before .before .before .before .before .before .before .before .before .before .before .before .pre .4, c .before .before .before .before .before .before .before .before .before .before .before .before .before .before .before .before .pre .9)
 
 pack-requires : tie.Need-pack-requires
-pack-requires c κs = (c .before .before .before .before .before .before .before .before .planned .ensures .1, c .before .before .before .before .before .before .before .before .before .before .before .before .before .before .before .before .before .before .before .pre .6, c .before .before .before .before .before .before .before .before .before .before .before .before .before .before .before .before .before .before .before .pre .7)
+pack-requires c κs =
+    (c .before .before .before .before .before .before .before .planned .ensures .1, c .before .before .before .before .before .before .before .before .before .before .before .before .before .before .before .before .before .before .pre .6, c .before .before .before .before .before .before .before .before .before .before .before .before .before .before .before .before .before .before .pre .7)
 
 same-length : tie.Need-same-length
 same-length c = search needs
@@ -49,7 +52,7 @@ same-length c = search needs
 returns : tie.Need-returns
 unfolding planBetween
 returns c =
-    rw (c .before .before .pack .ensures, c .before .before .before .before .before .before .before .before .before .before .before .planned .ensures .0, c .before .before .before .before .before .before .before .before .in-two-bytes .ensures, c .before .before .before .before .before .before .before .in-two-bytes2 .ensures, c .before .before .before .before .before .before .in-two-bytes3 .ensures, c .before .before .before .before .in-two-bytes4 .ensures, c .before .before .before .before .before .before .before .before .before .before .record-rtype .ensures, c .before .before .before .before .before .before .before .before .before .record-rtype2 .ensures, c .before .before .before .before .before .before .before .before .before .before .before .before .before .before .before .record-base .ensures, c .before .before .before .before .before .before .before .before .before .before .before .before .before .before .record-base2 .ensures, c .before .before .before .before .before .record-size .ensures, c .before .before .before .before .before .before .before .before .before .before .before .before .before .table-at .ensures, c .before .before .before .before .before .before .before .before .before .before .before .before .table-at2 .ensures)
+    rw (c .before .before .pack .ensures, c .before .before .before .before .before .before .before .before .before .before .planned .ensures .0, c .before .before .before .before .before .before .before .in-two-bytes .ensures, c .before .before .before .before .before .before .in-two-bytes2 .ensures, c .before .before .before .before .before .in-two-bytes3 .ensures, c .before .before .before .before .in-two-bytes4 .ensures, c .before .before .before .before .before .before .before .before .before .record-rtype .ensures, c .before .before .before .before .before .before .before .before .record-rtype2 .ensures, c .before .before .before .before .before .before .before .before .before .before .before .before .before .before .record-base .ensures, c .before .before .before .before .before .before .before .before .before .before .before .before .before .record-base2 .ensures, c .before .before .before .before .before .before .before .before .before .before .before .before .before .before .before .before .before .before .before .before .before .pre .9, c .before .before .before .before .before .before .before .before .before .before .before .before .table-at .ensures, c .before .before .before .before .before .before .before .before .before .before .before .table-at2 .ensures)
 
 pub lay-spec : {M : Type 1} → statement M
 lay-spec =
@@ -65,7 +68,6 @@ lay-spec =
     in-two-bytes-requires
     in-two-bytes-requires-2
     in-two-bytes-requires-3
-    record-size-requires
     in-two-bytes-requires-4
     pack-requires
     same-length
