@@ -1,10 +1,13 @@
 // The buffer that standard input is read into, piece by piece.
-use crate::kept::ROOM_SIZE;
-use crate::kept::Room;
 use libc::STDIN_FILENO;
 ghost use mathlib.Core.Path.{_≡_};
 ghost use Prim.Native.Nat.{_≤_};
 ghost use lib.ListN.{length};
+
+// More than the longest line.
+pub const ROOM_SIZE: usize = 131072;
+
+pub type Room = [u8; ROOM_SIZE];
 
 // The `ensures` gives only the length, which lending it needs.
 pub fn room() -> Room
