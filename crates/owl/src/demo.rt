@@ -67,7 +67,7 @@ fn show_plan(slot: &owl_map::numbers::Slot) {
     owl_say::out(b"\nWhere the target's bytes come from, as 'owl map' draws it:\n\n");
     owl_map::draw(slot);
     owl_say::out(
-        b"\nA record in hex, sequence 1170352, and the body that 'owl upgrade' makes of it:\n\n",
+        b"\nA record with sequence 1170352, and the body that 'owl upgrade' makes of it:\n\n",
     );
     show_record(slot);
     owl_say::out(b"\nTry next, where this was built:\n");
@@ -77,7 +77,6 @@ fn show_plan(slot: &owl_map::numbers::Slot) {
 
 fn show_record(slot: &owl_map::numbers::Slot) {
     let line = b"0ca002006a150000bc056df2dbe2541680fb30c56203000001000000b0db1100";
-    owl_say::out(b" ");
     owl_say::out(line);
     owl_say::out(b"\n");
     owl_tape::on_line(slot, 16, line, 1);

@@ -19,7 +19,7 @@ fn make(text: &Text, n: usize, hash: bool) {
 
 fn on_layouts(hash: bool) {
     let mut text = [0u8; 65536];
-    match files::load_second(&mut text) {
+    match files::load_second(&mut text, 3) {
         Loaded::Bytes(n) => make(&text, n, hash),
         Loaded::Failed => return,
     }

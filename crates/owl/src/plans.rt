@@ -27,9 +27,9 @@ fn read(text: &Text, n: usize, slot: &mut Slot, fd: i32) -> bool {
 }
 
 // Whether a plan stands in the slot; if not, it was said why.
-fn load(slot: &mut Slot, fd: i32) -> bool {
+fn load(slot: &mut Slot, most: usize, fd: i32) -> bool {
     let mut text = [0u8; 65536];
-    match files::load_second(&mut text) {
+    match files::load_second(&mut text, most) {
         Loaded::Bytes(n) => read(&text, n, slot, fd),
         Loaded::Failed => false,
     }
@@ -40,14 +40,14 @@ fn load(slot: &mut Slot, fd: i32) -> bool {
 pub fn check() {
     let mut slot = [0u8; 6160];
     // Here it is the result.
-    if load(&mut slot, STDOUT_FILENO) {
+    if load(&mut slot, 3, STDOUT_FILENO) {
         owl_map::summary(&slot);
     }
 }
 
 pub fn map() {
     let mut slot = [0u8; 6160];
-    if load(&mut slot, STDERR_FILENO) {
+    if load(&mut slot, 3, STDERR_FILENO) {
         owl_map::draw(&slot);
     }
 }
@@ -69,7 +69,7 @@ pub fn upgrade() {
         return;
     };
     let mut slot = [0u8; 6160];
-    if load(&mut slot, STDERR_FILENO) {
+    if load(&mut slot, 4, STDERR_FILENO) {
         owl_tape::run(&slot, n);
     }
 }

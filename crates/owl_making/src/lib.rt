@@ -39,13 +39,13 @@ fn refused(text: &[u8], s: State, to: u8, r: Refusal) {
 }
 
 fn no_target(source: &Block, k: u8) {
-    owl_say::complain(b"owl: no target record is selected for the source's '");
+    messages::of_file(b": no target record is selected for the source's '");
     owl_say::complain(pack::name_of(Holder::Record, source, k));
-    owl_say::complain(b"'; expected one of its rtype, or a line 'plan SOURCE TARGET'\n");
+    owl_say::complain(b"';\n  expected one of its rtype, or a line 'plan SOURCE TARGET'\n");
 }
 
 // The target record that the text names, or the one that is selected.
-fn chosen(text: &[u8], cat: &Catalogue, source: &Block, target: &Block, s: State) -> Selected {
+fn chosen(cat: &Catalogue, source: &Block, target: &Block, s: State) -> Selected {
     if s.chosen {
         return Selected::Record(lent::wide8(s.target));
     }
@@ -99,7 +99,9 @@ fn planned(
         slot,
     ) {
         Planned::Made => return true,
-        Planned::NoRecord => owl_say::complain(b"owl: expected a source and a target record\n"),
+        Planned::NoRecord => messages::of_file(
+            b": a record is missing; expected a source and a target\n",
+        ),
         Planned::Refused(r) => refused(text, s, to, r),
     }
     false
@@ -116,7 +118,7 @@ pub fn plan(
     s: State,
     slot: &mut Slot,
 ) -> bool {
-    match chosen(text, cat, source, target, s) {
+    match chosen(cat, source, target, s) {
         Selected::Record(to) => {
             return planned(
                 text,
@@ -131,7 +133,9 @@ pub fn plan(
             );
         }
         Selected::Unplanned => no_target(source, s.source),
-        Selected::NoRecord => owl_say::complain(b"owl: expected a source record\n"),
+        Selected::NoRecord => messages::of_file(
+            b": no source record; expected a line 'source NAME RTYPE SCHEMA'\n",
+        ),
         Selected::Refused(r) => refused(text, s, 0, r),
     }
     false

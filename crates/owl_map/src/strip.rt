@@ -79,7 +79,5 @@ pub fn draw(slot: &Slot) {
     fill(&mut cells, 0, numbers::header(slot), b'H');
     fill_steps(slot, &mut cells);
     say_rows(&cells, numbers::size(slot));
-    line::out(
-        b"\n  H header   C copied   I mapped as an integer   . default; a capital begins a step\n",
-    );
+    line::out(b"\n  H header   C copied   I integer   . default; a capital begins a step\n");
 }

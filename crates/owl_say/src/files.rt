@@ -65,12 +65,18 @@ fn load(k: usize, text: &mut Text) -> Loaded {
     loaded
 }
 
-// The file behind the command.
-pub fn load_second(text: &mut Text) -> Loaded {
+// The file behind the command, which has at most so many words, its own name among them.
+pub fn load_second(text: &mut Text, most: usize) -> Loaded {
     if os::arg_count() < 3 {
         crate::complain(
             b"owl: a file is missing behind the command; 'owl help' says what each takes\n",
         );
+        return Loaded::Failed;
+    }
+    if most < os::arg_count() {
+        crate::complain(b"owl: '");
+        complain_arg(most);
+        crate::complain(b"': a word too many; 'owl help' says what each command takes\n");
         return Loaded::Failed;
     }
     load(2, text)

@@ -90,15 +90,37 @@ fn of_types() {
     crate::complain(b"  or a struct that is closed above\n");
 }
 
-fn of_words(why: Why) {
+// How an item is written.
+fn say_form(line: &[u8]) {
+    if owl_words::is(line, 0, b"field") {
+        crate::complain(b"field NAME ID TYPE [N] [mark] [default HEX]\n");
+    } else if owl_words::is(line, 0, b"struct") {
+        crate::complain(b"struct NAME\n");
+    } else if owl_words::is(line, 0, b"plan") {
+        crate::complain(b"plan SOURCE TARGET\n");
+    } else if owl_words::is(line, 0, b"base") {
+        crate::complain(b"base\n");
+    } else {
+        crate::complain(owl_words::word(line, 0));
+        crate::complain(b" NAME RTYPE SCHEMA\n");
+    }
+}
+
+fn of_words(line: &[u8], why: Why) {
     match why {
         Why::NoItem => {
             crate::complain(
                 b"no item; expected source target struct field at base header wanted plan catalogue\n",
             )
         }
-        Why::TooFew => crate::complain(b"too few words; docs/OWL.md has each item's\n"),
-        Why::TooMany => crate::complain(b"too many words; docs/OWL.md has each item's\n"),
+        Why::TooFew => {
+            crate::complain(b"a word is missing; expected ");
+            say_form(line);
+        }
+        Why::TooMany => {
+            crate::complain(b"a word too many; expected ");
+            say_form(line);
+        }
         Why::NoNumber => crate::complain(b"expected one number, from 0 to 65535\n"),
         Why::NoHex => crate::complain(b"expected bytes in hex, two of 0-9 a-f each\n"),
         Why::LongName => crate::complain(b"a name has at most 32 bytes\n"),
@@ -129,6 +151,12 @@ pub fn place(line: usize) {
     crate::complain(b": ");
 }
 
+// Of the whole file.
+pub fn of_file(text: &[u8]) {
+    files::complain_arg(2);
+    crate::complain(text);
+}
+
 fn quote(line: &[u8], k: usize) {
     let word = owl_words::word(line, k);
     if word.len() == 0 {
@@ -142,7 +170,8 @@ fn quote(line: &[u8], k: usize) {
 
 pub fn fault(text: &[u8], f: Fault) {
     place(f.line);
-    quote(owl_words::content(line_from(text, f.from)), f.word);
+    let line = owl_words::content(line_from(text, f.from));
+    quote(line, f.word);
     let why = f.why;
-    of_words(why);
+    of_words(line, why);
 }
