@@ -226,7 +226,7 @@ def compare(text, folder, rng):
     if slot is None:
         assert written == "", text
         return 2
-    assert written == model_text.text_of(model_text.plan_in(slot)), (text, written)
+    assert written.encode() == model_text.text_of(model_text.plan_in(slot)), (text, written)
     path = os.path.join(folder, "a.plan")
     open(path, "w").write(written)
     assert strip_of(owl("map", path)) == letters(slot), text

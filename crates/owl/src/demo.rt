@@ -1,13 +1,14 @@
 // A small upgrade that is built in: its layouts, the plan, its map, and one record before and after.
-use owl_layouts::state::Took;
+use caseline::put;
+use owl_map::numbers::Slot;
 
 fn put_source(text: &mut [u8], at: usize) -> usize {
-    let a = caseline::put::text(
+    let a = put::text(
         text,
         at,
         b"struct hd\nfield rest 2 u64 2\n\nsource order 160 1\nfield hd 1 hd\n",
     );
-    caseline::put::text(
+    put::text(
         text,
         a,
         b"field price 3 price\nfield size 4 u32\nfield sequence 5 u32\n\n",
@@ -15,12 +16,12 @@ fn put_source(text: &mut [u8], at: usize) -> usize {
 }
 
 fn put_target(text: &mut [u8], at: usize) -> usize {
-    let a = caseline::put::text(
+    let a = put::text(
         text,
         at,
         b"target order 160 1\nfield hd 1 hd\nfield sequence 5 u64 mark\n",
     );
-    caseline::put::text(
+    put::text(
         text,
         a,
         b"field price 3 price\nfield size 4 u32\nfield venue 6 u16 default 0100\n",
@@ -37,31 +38,13 @@ pub fn show() {
 fn show_text(text: &[u8]) {
     owl_say::out(b"A source and a target layout, as 'owl plan' takes them:\n\n");
     owl_say::out(text);
-    let mut cat = [0u8; 262];
-    let mut source = [0u8; 65536];
-    let mut target = [0u8; 65536];
-    let mut bodies = [0u8; 65536];
-    let mut marks = [0u8; 2048];
-    let mut slot = [0u8; 6160];
-    let took = owl_layouts::read(
-        text,
-        &mut cat,
-        &mut source,
-        &mut target,
-        &mut bodies,
-        &mut marks,
-    );
-    match took {
-        Took::Next(s) => {
-            if owl_making::plan(text, &cat, &source, &target, &bodies, &marks, s, &mut slot) {
-                show_plan(&slot);
-            }
-        }
-        Took::Bad(f) => owl_say::messages::fault(text, f),
+    let mut slot = [0u8; slot::SIZE];
+    if owl_making::plan_of(text, &mut slot) {
+        show_plan(&slot);
     }
 }
 
-fn show_plan(slot: &owl_map::numbers::Slot) {
+fn show_plan(slot: &Slot) {
     owl_say::out(b"\nThe plan between them, as 'owl plan' prints it:\n\n");
     owl_making::say_plan(slot);
     owl_say::out(b"\nWhere the target's bytes come from, as 'owl map' draws it:\n\n");
@@ -75,7 +58,7 @@ fn show_plan(slot: &owl_map::numbers::Slot) {
     owl_say::out(b"  owl upgrade examples/mbo.plan < examples/mbo.tape\n");
 }
 
-fn show_record(slot: &owl_map::numbers::Slot) {
+fn show_record(slot: &Slot) {
     let line = b"0ca002006a150000bc056df2dbe2541680fb30c56203000001000000b0db1100";
     owl_say::out(line);
     owl_say::out(b"\n");

@@ -14,11 +14,18 @@ fn is_word(k: usize, text: &[u8]) -> bool {
 }
 
 fn make(text: &Text, n: usize, hash: bool) {
-    owl_making::on_layouts(lent::part(text, 0, n), hash);
+    let all = lent::part(text, 0, n);
+    let mut slot = [0u8; slot::SIZE];
+    if hash {
+        return owl_making::say_hashes(all);
+    }
+    if owl_making::plan_of(all, &mut slot) {
+        owl_making::say_plan(&slot);
+    }
 }
 
 fn on_layouts(hash: bool) {
-    let mut text = [0u8; 65536];
+    let mut text = [0u8; files::ROOM];
     match files::load_second(&mut text, 3) {
         Loaded::Bytes(n) => make(&text, n, hash),
         Loaded::Failed => return,

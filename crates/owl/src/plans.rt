@@ -28,7 +28,7 @@ fn read(text: &Text, n: usize, slot: &mut Slot, fd: i32) -> bool {
 
 // Whether a plan stands in the slot; if not, it was said why.
 fn load(slot: &mut Slot, most: usize, fd: i32) -> bool {
-    let mut text = [0u8; 65536];
+    let mut text = [0u8; files::ROOM];
     match files::load_second(&mut text, most) {
         Loaded::Bytes(n) => read(&text, n, slot, fd),
         Loaded::Failed => false,
@@ -38,7 +38,7 @@ fn load(slot: &mut Slot, most: usize, fd: i32) -> bool {
 // ---- the commands
 
 pub fn check() {
-    let mut slot = [0u8; 6160];
+    let mut slot = [0u8; slot::SIZE];
     // Here it is the result.
     if load(&mut slot, 3, STDOUT_FILENO) {
         owl_map::summary(&slot);
@@ -46,7 +46,7 @@ pub fn check() {
 }
 
 pub fn map() {
-    let mut slot = [0u8; 6160];
+    let mut slot = [0u8; slot::SIZE];
     if load(&mut slot, 3, STDERR_FILENO) {
         owl_map::draw(&slot);
     }
@@ -68,7 +68,7 @@ pub fn upgrade() {
         owl_say::complain(b"': expected the length of the source's header, a number\n");
         return;
     };
-    let mut slot = [0u8; 6160];
+    let mut slot = [0u8; slot::SIZE];
     if load(&mut slot, 4, STDERR_FILENO) {
         owl_tape::run(&slot, n);
     }

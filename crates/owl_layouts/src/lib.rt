@@ -1,9 +1,13 @@
 // A text of layouts, as people write them (docs/OWL.md): items, one a line, read into the bytes that the public calls take.
+pub mod closing;
+pub mod defaults;
 pub mod fault;
 pub mod fields;
 pub mod items;
+pub mod opening;
 pub mod pack;
 pub mod room;
+pub mod spelling;
 pub mod state;
 pub mod types;
 
@@ -108,13 +112,13 @@ fn closes(line: &[u8]) -> bool {
 // Items that close what is open.
 fn take_outer(line: &[u8], source: &mut Block, target: &mut Block, s: State) -> Took {
     if owl_words::is(line, 0, b"source") {
-        return items::open_record(line, source, s.sources, state::SOURCE, s);
+        return opening::open_record(line, source, s.sources, state::SOURCE, s);
     }
     if owl_words::is(line, 0, b"target") {
-        return items::open_record(line, target, s.targets, state::TARGET, s);
+        return opening::open_record(line, target, s.targets, state::TARGET, s);
     }
     if owl_words::is(line, 0, b"struct") {
-        return items::open_struct(line, source, target, s);
+        return opening::open_struct(line, source, target, s);
     }
     items::plan(line, source, target, s)
 }
@@ -136,7 +140,7 @@ fn take(
     if !closes(line) {
         return take_inner(line, cat, source, rows, slots, bodies, marks, s);
     }
-    match items::close(cat, source, target, rows, slots, s) {
+    match closing::close(cat, source, target, rows, slots, s) {
         Took::Next(next) => take_outer(line, source, target, next),
         Took::Bad(f) => Took::Bad(f),
     }
@@ -162,8 +166,8 @@ pub fn read(
     bodies: &mut Bodies,
     marks: &mut Marks,
 ) -> Took {
-    let mut rows = [0u8; 2048];
-    let mut slots = [0u8; 4224];
+    let mut rows = [0u8; room::ROWS];
+    let mut slots = [0u8; room::NAMES];
     let mut s = begun(text, cat, source, target);
     let mut at = 0;
     while at < text.len() {
@@ -186,5 +190,5 @@ pub fn read(
         }
         at = next_at;
     }
-    items::close(cat, source, target, &mut rows, &mut slots, s)
+    closing::close(cat, source, target, &mut rows, &mut slots, s)
 }

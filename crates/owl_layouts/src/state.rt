@@ -34,7 +34,6 @@ pub struct State {
     pub target_end: usize,
     pub header: usize,
     pub header_line: usize,
-    pub catalogue_line: usize,
     // The schema that is wanted, if one is.
     pub wanted: bool,
     pub schema: u16,
@@ -66,7 +65,6 @@ pub fn start(source_end: usize, target_end: usize) -> State {
         target_end,
         header: HEADER,
         header_line: 0,
-        catalogue_line: 0,
         wanted: false,
         schema: 0,
         chosen: false,

@@ -3,8 +3,6 @@ use crate::room::Catalogue;
 use caseline::Parsed;
 use caseline::put;
 
-pub const CATALOGUE_SIZE: usize = 262;
-
 const ARRAY_FLAG_AT: usize = 256;
 
 pub const UNSIGNED: u8 = 1;

@@ -4,6 +4,7 @@ use libc::STDERR_FILENO;
 use libc::STDOUT_FILENO;
 use limits::refusal::Refusal;
 use owl_layouts::pack;
+use owl_layouts::room;
 use owl_layouts::room::Block;
 use owl_layouts::room::Bodies;
 use owl_layouts::room::Catalogue;
@@ -20,7 +21,9 @@ use tuppenceowl::planning::Planned;
 use tuppenceowl::planning::Selected;
 use tuppenceowl::texting;
 
-pub type Slot = [u8; 6160];
+pub type Slot = [u8; slot::SIZE];
+
+const RECORDS: u8 = limits::MAX_RECORDS as u8;
 
 // ---- which records
 
@@ -108,7 +111,7 @@ fn planned(
 }
 
 // Whether a plan stands in the slot; if not, it was said why.
-pub fn plan(
+fn plan(
     text: &[u8],
     cat: &Catalogue,
     source: &Block,
@@ -185,7 +188,7 @@ fn hashed(side: &[u8], cat: &Catalogue, l: &Block, end: usize, k: u8) -> bool {
 
 fn hashes(side: &[u8], cat: &Catalogue, l: &Block, end: usize) {
     let mut k: u8 = 0;
-    while k < 16 {
+    while k < RECORDS {
         if !hashed(side, cat, l, end, k) {
             return;
         }
@@ -195,13 +198,36 @@ fn hashes(side: &[u8], cat: &Catalogue, l: &Block, end: usize) {
 
 // ---- a text
 
-pub fn on_layouts(text: &[u8], hash: bool) {
-    let mut cat = [0u8; 262];
-    let mut source = [0u8; 65536];
-    let mut target = [0u8; 65536];
-    let mut bodies = [0u8; 65536];
-    let mut marks = [0u8; 2048];
-    let mut slot = [0u8; 6160];
+// Whether its plan stands in the slot; if not, it was said why.
+pub fn plan_of(text: &[u8], slot: &mut Slot) -> bool {
+    let mut cat = [0u8; room::CATALOGUE];
+    let mut source = [0u8; room::BLOCK];
+    let mut target = [0u8; room::BLOCK];
+    let mut bodies = [0u8; room::BODIES];
+    let mut marks = [0u8; room::MARKS];
+    let took = owl_layouts::read(
+        text,
+        &mut cat,
+        &mut source,
+        &mut target,
+        &mut bodies,
+        &mut marks,
+    );
+    match took {
+        Took::Next(s) => plan(text, &cat, &source, &target, &bodies, &marks, s, slot),
+        Took::Bad(f) => {
+            messages::fault(text, f);
+            false
+        }
+    }
+}
+
+pub fn say_hashes(text: &[u8]) {
+    let mut cat = [0u8; room::CATALOGUE];
+    let mut source = [0u8; room::BLOCK];
+    let mut target = [0u8; room::BLOCK];
+    let mut bodies = [0u8; room::BODIES];
+    let mut marks = [0u8; room::MARKS];
     let took = owl_layouts::read(
         text,
         &mut cat,
@@ -212,14 +238,8 @@ pub fn on_layouts(text: &[u8], hash: bool) {
     );
     match took {
         Took::Next(s) => {
-            if hash {
-                hashes(b"source ", &cat, &source, s.source_end);
-                hashes(b"target ", &cat, &target, s.target_end);
-                return;
-            }
-            if plan(text, &cat, &source, &target, &bodies, &marks, s, &mut slot) {
-                say_plan(&slot);
-            }
+            hashes(b"source ", &cat, &source, s.source_end);
+            hashes(b"target ", &cat, &target, s.target_end);
         }
         Took::Bad(f) => messages::fault(text, f),
     }

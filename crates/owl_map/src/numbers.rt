@@ -1,7 +1,7 @@
 // The numbers of a plan's slot (docs/FORMATS.md).
 ghost use Prim.Native.Nat.{_<_, _≤_};
 
-pub type Slot = [u8; 6160];
+pub type Slot = [u8; slot::SIZE];
 
 pub fn number(slot: &Slot, at: usize) -> usize
     ensures { λ r. ⌜ r < 65536 ⌝ }

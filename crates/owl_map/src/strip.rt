@@ -5,7 +5,7 @@ use crate::numbers;
 use crate::numbers::Slot;
 use caseline::put;
 
-pub type Cells = [u8; 4096];
+pub type Cells = [u8; limits::MAX_BYTES];
 
 // Letters in a row, and how many stand together.
 const ROW: usize = 64;
@@ -75,7 +75,7 @@ fn say_rows(cells: &Cells, size: usize) {
 }
 
 pub fn draw(slot: &Slot) {
-    let mut cells = [b'.'; 4096];
+    let mut cells = [b'.'; limits::MAX_BYTES];
     fill(&mut cells, 0, numbers::header(slot), b'H');
     fill_steps(slot, &mut cells);
     say_rows(&cells, numbers::size(slot));

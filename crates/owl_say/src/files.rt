@@ -1,7 +1,9 @@
 // The file that an argument names, read whole.
 
 // More than the longest plan text, and room for some two thousand lines of layouts.
-pub type Text = [u8; 65536];
+pub const ROOM: usize = 65536;
+
+pub type Text = [u8; ROOM];
 
 pub enum Loaded {
     Bytes(usize),
@@ -41,7 +43,7 @@ fn read(fd: i32, path: &[u8], text: &mut Text) -> Loaded {
         complain_empty(fd, path);
         return Loaded::Failed;
     }
-    if n == 65536 {
+    if n == ROOM {
         complain_long(path);
         return Loaded::Failed;
     }

@@ -8,6 +8,9 @@ use owl_layouts::fault::Why;
 
 const NEWLINE: u8 = b'\n';
 
+// Most bytes of a word that a message shows.
+const QUOTED: usize = 40;
+
 // ---- refusals, by number and in words
 
 fn of_upgrades(fd: i32, r: Refusal) {
@@ -164,7 +167,12 @@ fn quote(line: &[u8], k: usize) {
         return;
     }
     crate::complain(b"'");
-    crate::complain(word);
+    if QUOTED < word.len() {
+        crate::complain(lent::part(word, 0, QUOTED));
+        crate::complain(b"..");
+    } else {
+        crate::complain(word);
+    }
     crate::complain(b"': ");
 }
 

@@ -11,6 +11,9 @@ use tuppenceowl::upgrading;
 
 const NEWLINE: u8 = b'\n';
 
+// The longest line of the output.
+const LONGEST: usize = 2 * limits::MAX_BYTES + 3;
+
 // What a read leaves: so many bytes of a line that is not whole, or the end.
 enum Step {
     Waiting(usize),
@@ -21,7 +24,7 @@ enum Step {
 
 // 'b', a blank and the bytes behind the header.
 fn say_body(target: &[u8], header: usize, size: usize) {
-    let mut out = [0u8; 8200];
+    let mut out = [0u8; LONGEST];
     let word = put::text(&mut out, 0, b"b ");
     if header <= size {
         let end = put::octets(&mut out, word, lent::part(target, header, size - header));
@@ -36,7 +39,7 @@ fn in_two_bytes(n: usize) -> u16 {
 
 // By the plan in the slot, as a record of its rtype.
 pub fn upgrade(slot: &Slot, source_header: usize, record: &[u8]) {
-    let mut target = [0u8; 4096];
+    let mut target = [0u8; limits::MAX_BYTES];
     let rtype = in_two_bytes(numbers::number(slot, 0));
     let header = numbers::header(slot);
     let ids = [0u16; 1];
@@ -72,7 +75,7 @@ pub fn on_line(slot: &Slot, source_header: usize, line: &[u8], number: usize) {
     if owl_words::words(content) == 0 {
         return;
     }
-    let mut bytes = [0u8; 65536];
+    let mut bytes = [0u8; input::ROOM_SIZE / 2];
     if owl_words::words(content) != 1 {
         return say_fault(number);
     }
