@@ -3,7 +3,7 @@
 
   tests/owl_model.py [N] [SEED]     the samples, then N random texts (default 200)
 
-Of each text: plan, hash, map and the upgrade of records of every length around the steps. Needs target/bin/owl."""
+Of each text: plan, hash, map, the upgrade of records of every length around the steps, and the check of damaged plans. Needs target/bin/owl."""
 import os, random, subprocess, sys, tempfile
 
 import model_text
@@ -211,6 +211,37 @@ def tape_for(rng, slot):
     return tape + [b"\xff" * p.src_base]
 
 
+NUMBERS = (0, 1, 2, 3, 4, 8, 16, 24, 63, 64, 65, 128, 129, 4095, 4096, 4097, 65535, 65536)
+
+
+def damaged(rng, text):
+    """a plan's text with a character, a field or a line changed"""
+    style, lines, words = rng.randrange(5), text.split("\n"), text.split("\t")
+    i, k, w = rng.randrange(len(text)), rng.randrange(len(lines)), rng.randrange(len(words))
+    if style == 0:
+        return text[:i] + rng.choice("0123456789abcdefus\t\n pyl") + text[i + 1 :]
+    if style == 1:
+        return text[:i] + text[i + 1 :]
+    if style == 2:
+        words[w] = str(rng.choice(NUMBERS))
+        return "\t".join(words)
+    if style == 3:
+        lines.insert(k, rng.choice(lines))
+    else:
+        lines.pop(k)
+    return "\n".join(lines)
+
+
+def compare_check(text, path):
+    """the verdict is the model's, and what is no plan has a line to show"""
+    open(path, "w").write(text)
+    said = owl("check", path)
+    if model_text.plan_of(text.encode()) is None:
+        assert not text or said.startswith(path + ":") and ": no plan (r16): " in said, (text, said)
+    else:
+        assert said.startswith("plan of "), (text, said)
+
+
 def compare(text, folder, rng):
     """how many answers were the same; stops at the first other one"""
     path = os.path.join(folder, "a.layouts")
@@ -234,7 +265,9 @@ def compare(text, folder, rng):
     given = "".join(r.hex() + "\n" for r in tape)
     said = "".join((line.split()[0] if line[0] == "r" else line) + "\n" for line in owl("upgrade", path, given=given).splitlines())
     assert said == upgrades(slot, tape, 16), text
-    return 3 + len(tape)
+    for _ in range(4):
+        compare_check(damaged(rng, written), path)
+    return 7 + len(tape)
 
 
 def main():

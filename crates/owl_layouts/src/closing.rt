@@ -1,15 +1,15 @@
 // What closes a record or a struct: the cursor finishes it, and it is packed into its block.
-use crate::fault::Why;
-use crate::pack;
-use crate::room::Block;
-use crate::room::Names;
-use crate::room::Rows;
-use crate::state;
-use crate::state::State;
-use crate::state::Took;
 use builders::FieldCursor;
 use builders::Placed;
 use layout::block;
+use owl_fields::fault::Why;
+use owl_fields::pack;
+use owl_fields::room::Block;
+use owl_fields::room::Names;
+use owl_fields::room::Rows;
+use owl_fields::state;
+use owl_fields::state::State;
+use owl_fields::state::Took;
 use tuppenceowl::building;
 
 fn more(n: u8) -> u8 {

@@ -1,17 +1,17 @@
 // The items inside a record, and what the plan asks.
-use crate::fault::Why;
-use crate::pack;
-use crate::room;
-use crate::room::Block;
-use crate::room::Catalogue;
-use crate::room::Names;
-use crate::room::Rows;
-use crate::state;
-use crate::state::State;
-use crate::state::Took;
 use builders::Placed;
 use caseline::Parsed;
 use layout::block::Holder;
+use owl_fields::fault::Why;
+use owl_fields::pack;
+use owl_fields::room;
+use owl_fields::room::Block;
+use owl_fields::room::Catalogue;
+use owl_fields::room::Names;
+use owl_fields::room::Rows;
+use owl_fields::state;
+use owl_fields::state::State;
+use owl_fields::state::Took;
 use tuppenceowl::Admitted;
 use tuppenceowl::building;
 

@@ -1,25 +1,22 @@
 // A text of layouts, as people write them (docs/OWL.md): items, one a line, read into the bytes that the public calls take.
 pub mod closing;
-pub mod defaults;
-pub mod fault;
-pub mod fields;
 pub mod items;
 pub mod opening;
-pub mod pack;
-pub mod room;
-pub mod spelling;
-pub mod state;
-pub mod types;
 
-use fault::Why;
-use room::Block;
-use room::Bodies;
-use room::Catalogue;
-use room::Marks;
-use room::Names;
-use room::Rows;
-use state::State;
-use state::Took;
+use owl_fields::fault::Why;
+use owl_fields::fields;
+use owl_fields::pack;
+use owl_fields::room;
+use owl_fields::room::Block;
+use owl_fields::room::Bodies;
+use owl_fields::room::Catalogue;
+use owl_fields::room::Marks;
+use owl_fields::room::Names;
+use owl_fields::room::Rows;
+use owl_fields::state;
+use owl_fields::state::State;
+use owl_fields::state::Took;
+use owl_fields::types;
 
 const NEWLINE: u8 = b'\n';
 

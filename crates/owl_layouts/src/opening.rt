@@ -1,12 +1,12 @@
 // What opens a record or a struct.
-use crate::fault::Why;
-use crate::pack;
-use crate::room::Block;
-use crate::state;
-use crate::state::State;
-use crate::state::Took;
 use caseline::Parsed;
 use layout::block::Holder;
+use owl_fields::fault::Why;
+use owl_fields::pack;
+use owl_fields::room::Block;
+use owl_fields::state;
+use owl_fields::state::State;
+use owl_fields::state::Took;
 use tuppenceowl::building;
 
 fn opened(s: State, open: u8, holder: Holder) -> State {

@@ -3,8 +3,8 @@ use crate::files;
 use libc::STDERR_FILENO;
 use limits::refusal;
 use limits::refusal::Refusal;
-use owl_layouts::fault::Fault;
-use owl_layouts::fault::Why;
+use owl_fields::fault::Fault;
+use owl_fields::fault::Why;
 
 const NEWLINE: u8 = b'\n';
 
