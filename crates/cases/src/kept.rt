@@ -1,10 +1,5 @@
 // The buffers, and how large they are.
 
-// More than the longest line.
-pub const ROOM_SIZE: usize = 131072;
-
-pub type Room = [u8; ROOM_SIZE];
-
 pub type Catalogue = [u8; 1024];
 
 // A layout, or a field's table.

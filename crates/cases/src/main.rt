@@ -1,5 +1,4 @@
 // Reads cases from standard input, one a line, and writes the answer to each as a line to standard output.
-mod input;
 mod kept;
 mod words;
 
@@ -7,8 +6,8 @@ use ask_cursor::Rows;
 use ask_cursor::Slots;
 use ask_cursor::State;
 use ask_upgrade::Plans;
+use input::Room;
 use kept::Catalogue;
-use kept::Room;
 use kept::Sizes;
 use kept::Table;
 use libc::STDOUT_FILENO;

@@ -1,0 +1,68 @@
+// owl: plans, hashes and upgrades for a build office at a terminal (docs/OWL.md). Results go to standard output, messages to standard error.
+mod demo;
+mod help;
+mod plans;
+
+use owl_say::files;
+use owl_say::files::Loaded;
+use owl_say::files::Text;
+
+fn is_word(k: usize, text: &[u8]) -> bool {
+    let mut word = io::buffer();
+    let n = os::arg(k, &mut word);
+    lent::same(&word[..n], text)
+}
+
+fn make(text: &Text, n: usize, hash: bool) {
+    let all = lent::part(text, 0, n);
+    let mut slot = [0u8; slot::SIZE];
+    if hash {
+        return owl_making::say_hashes(all);
+    }
+    if owl_making::plan_of(all, &mut slot) {
+        owl_making::say_plan(&slot);
+    }
+}
+
+fn on_layouts(hash: bool) {
+    let mut text = [0u8; files::ROOM];
+    match files::load_second(&mut text, 3) {
+        Loaded::Bytes(n) => make(&text, n, hash),
+        Loaded::Failed => return,
+    }
+}
+
+fn unknown() {
+    owl_say::complain(b"owl: '");
+    files::complain_arg(1);
+    owl_say::complain(b"' is no command; expected plan, hash, upgrade, check, map or help\n");
+}
+
+fn with_plan() {
+    if is_word(1, b"upgrade") {
+        return plans::upgrade();
+    }
+    if is_word(1, b"check") {
+        return plans::check();
+    }
+    if is_word(1, b"map") {
+        return plans::map();
+    }
+    unknown();
+}
+
+fn main() {
+    if os::arg_count() < 2 {
+        return demo::show();
+    }
+    if is_word(1, b"help") {
+        return help::show();
+    }
+    if is_word(1, b"plan") {
+        return on_layouts(false);
+    }
+    if is_word(1, b"hash") {
+        return on_layouts(true);
+    }
+    with_plan();
+}

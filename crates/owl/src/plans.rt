@@ -1,0 +1,75 @@
+// The commands that take a plan's text.
+use caseline::Parsed;
+use libc::STDERR_FILENO;
+use libc::STDOUT_FILENO;
+use owl_map::numbers::Slot;
+use owl_say::files;
+use owl_say::files::Loaded;
+use owl_say::files::Text;
+use plan_read::reader::ReadPlan;
+use tuppenceowl::texting;
+
+// dbn's header in versions 1 to 3.
+const HEADER: usize = 16;
+
+fn say_refused(fd: i32, text: &[u8]) {
+    files::say_arg(fd, 2);
+    owl_check::say(fd, text);
+}
+
+fn read(text: &Text, n: usize, slot: &mut Slot, fd: i32) -> bool {
+    let all = lent::part(text, 0, n);
+    match texting::read_plan(all, slot) {
+        ReadPlan::Read => return true,
+        ReadPlan::Refused(_) => say_refused(fd, all),
+    }
+    false
+}
+
+// Whether a plan stands in the slot; if not, it was said why.
+fn load(slot: &mut Slot, most: usize, fd: i32) -> bool {
+    let mut text = [0u8; files::ROOM];
+    match files::load_second(&mut text, most) {
+        Loaded::Bytes(n) => read(&text, n, slot, fd),
+        Loaded::Failed => false,
+    }
+}
+
+// ---- the commands
+
+pub fn check() {
+    let mut slot = [0u8; slot::SIZE];
+    // Here it is the result.
+    if load(&mut slot, 3, STDOUT_FILENO) {
+        owl_map::summary(&slot);
+    }
+}
+
+pub fn map() {
+    let mut slot = [0u8; slot::SIZE];
+    if load(&mut slot, 3, STDERR_FILENO) {
+        owl_map::draw(&slot);
+    }
+}
+
+fn header() -> Parsed {
+    if os::arg_count() < 4 {
+        return Parsed::Is(HEADER);
+    }
+    let mut word = io::buffer();
+    let n = os::arg(3, &mut word);
+    caseline::short(&word[..n])
+}
+
+pub fn upgrade() {
+    let Parsed::Is(n) = header() else {
+        owl_say::complain(b"owl: '");
+        files::complain_arg(3);
+        owl_say::complain(b"': expected the length of the source's header, a number\n");
+        return;
+    };
+    let mut slot = [0u8; slot::SIZE];
+    if load(&mut slot, 4, STDERR_FILENO) {
+        owl_tape::run(&slot, n);
+    }
+}

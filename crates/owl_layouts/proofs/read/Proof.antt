@@ -1,0 +1,90 @@
+-- A line starts inside.
+use Prim.Native.Nat.{_+_, _-_, _≤_}
+use borrow.Author.Needs.{needs}
+use lib.ListN.{length}
+use native.Mathlib.Omega.{arith}
+use Rattle.owl_layouts.proofs.read.Statement.{statement}
+use Rattle.owl_layouts.proofs.read.Tie as tie
+
+abbrev Inv-loop : tie.InvT-loop
+Inv-loop text cat₀ source₀ target₀ bodies₀ marks₀ rows₀ slots₀ s₀ at₀ cat source target bodies marks rows slots s at = at ≤ length text + 1
+
+abbrev μ-loop : tie.MeasureT-loop
+μ-loop text cat₀ source₀ target₀ bodies₀ marks₀ rows₀ slots₀ s₀ at₀ cat source target bodies marks rows slots s at = length text + 1 - at
+
+begun-requires : tie.Need-begun-requires Inv-loop μ-loop
+begun-requires c κs = search needs
+
+loop-holds : tie.Need-loop-holds Inv-loop μ-loop
+loop-holds c = search needs
+
+find-requires : tie.Need-find-requires Inv-loop μ-loop
+find-requires c κs = search needs
+
+add-next-at : tie.Need-add-next-at Inv-loop μ-loop
+add-next-at c = search needs
+
+sub-content : tie.Need-sub-content Inv-loop μ-loop
+sub-content c = search needs
+
+part-content-start : tie.Need-part-content-start Inv-loop μ-loop
+part-content-start c = search needs
+
+part-content-end : tie.Need-part-content-end Inv-loop μ-loop
+part-content-end c = search needs
+
+content-requires : tie.Need-content-requires Inv-loop μ-loop
+content-requires c κs = search needs
+
+at-line-requires : tie.Need-at-line-requires Inv-loop μ-loop
+at-line-requires c κs = search needs
+
+take-requires : tie.Need-take-requires Inv-loop μ-loop
+take-requires c κs = search needs
+
+enum-known-next : tie.Need-enum-known-next Inv-loop μ-loop
+enum-known-next c = search needs
+
+enum-known-f : tie.Need-enum-known-f Inv-loop μ-loop
+enum-known-f c = search needs
+
+returns : tie.Need-returns Inv-loop μ-loop
+returns c = search needs
+
+loop-less : tie.Need-loop-less Inv-loop μ-loop
+loop-less c =
+    omega (arith, c .before .before .before .before .before .before .before .before .before .before .before .before .before .before .find .ensures)
+
+loop-again : tie.Need-loop-again Inv-loop μ-loop
+loop-again c =
+    omega (arith, c .before .before .before .before .before .before .before .before .before .before .before .before .before .before .find .ensures)
+
+close-requires : tie.Need-close-requires Inv-loop μ-loop
+close-requires c κs = search needs
+
+returns-2 : tie.Need-returns-2 Inv-loop μ-loop
+returns-2 c = search needs
+
+pub read-spec : {M : Type 1} → statement M
+read-spec =
+    tie.close
+    (tie.spec
+    Inv-loop
+    μ-loop
+    begun-requires
+    loop-holds
+    find-requires
+    add-next-at
+    sub-content
+    part-content-start
+    part-content-end
+    content-requires
+    at-line-requires
+    take-requires
+    enum-known-next
+    enum-known-f
+    returns
+    loop-less
+    loop-again
+    close-requires
+    returns-2)

@@ -1,0 +1,146 @@
+// A tape: records in hex, one a line of standard input, upgraded by one plan. Each record has one line of the output.
+use caseline::Parsed;
+use caseline::put;
+use dispatch::Upgraded;
+use input::Room;
+use libc::STDOUT_FILENO;
+use owl_map::numbers;
+use owl_map::numbers::Slot;
+use owl_say::messages;
+use tuppenceowl::upgrading;
+
+const NEWLINE: u8 = b'\n';
+
+// The longest line of the output.
+const LONGEST: usize = 2 * limits::MAX_BYTES + 3;
+
+// What a read leaves: so many bytes of a line that is not whole, or the end.
+enum Step {
+    Waiting(usize),
+    End,
+}
+
+// ---- one record
+
+// 'b', a blank and the bytes behind the header.
+fn say_body(target: &[u8], header: usize, size: usize) {
+    let mut out = [0u8; LONGEST];
+    let word = put::text(&mut out, 0, b"b ");
+    if header <= size {
+        let end = put::octets(&mut out, word, lent::part(target, header, size - header));
+        let whole = put::byte(&mut out, end, NEWLINE);
+        owl_say::out(lent::part(&out, 0, whole));
+    }
+}
+
+fn in_two_bytes(n: usize) -> u16 {
+    (n % 65536) as u16
+}
+
+// By the plan in the slot, as a record of its rtype.
+pub fn upgrade(slot: &Slot, source_header: usize, record: &[u8]) {
+    let mut target = [0u8; limits::MAX_BYTES];
+    let rtype = in_two_bytes(numbers::number(slot, 0));
+    let header = numbers::header(slot);
+    let ids = [0u16; 1];
+    let answer = upgrading::upgrade(
+        slot,
+        &ids[0..0],
+        rtype,
+        source_header,
+        header,
+        record,
+        record.len(),
+        &mut target,
+    );
+    match answer {
+        Upgraded::Done(_, size) => say_body(&target, header, size),
+        Upgraded::Refused(r) => messages::refused(STDOUT_FILENO, r),
+    }
+}
+
+// ---- one line
+
+fn say_fault(number: usize) {
+    owl_say::out(b"? line ");
+    owl_say::number(STDOUT_FILENO, number);
+    owl_say::out(
+        b": not a record; expected its bytes in hex, two of 0-9 a-f each, and nothing else\n",
+    );
+}
+
+// An empty line or a comment is passed over.
+pub fn on_line(slot: &Slot, source_header: usize, line: &[u8], number: usize) {
+    let content = owl_words::content(line);
+    if owl_words::words(content) == 0 {
+        return;
+    }
+    let mut bytes = [0u8; input::ROOM_SIZE / 2];
+    if owl_words::words(content) != 1 {
+        return say_fault(number);
+    }
+    match caseline::hex(owl_words::word(content, 0), &mut bytes) {
+        Parsed::Is(n) => upgrade(slot, source_header, lent::part(&bytes, 0, n)),
+        Parsed::Malformed => say_fault(number),
+    }
+}
+
+// ---- the lines
+
+fn next_number(number: usize) -> usize {
+    if number < 1000000000000 {
+        return number + 1;
+    }
+    number
+}
+
+// Upgrades each whole line, counts them, and tells where what is left begins.
+fn whole_lines(bytes: &[u8], slot: &Slot, source_header: usize, number: &mut usize) -> usize {
+    let mut at = 0;
+    let mut end = caseline::find(bytes, at, NEWLINE);
+    while end < bytes.len() {
+        *number = next_number(*number);
+        on_line(slot, source_header, &bytes[at..end], *number);
+        at = end + 1;
+        end = caseline::find(bytes, at, NEWLINE);
+    }
+    at
+}
+
+// Reads once; the last line may lack its end.
+fn turn(
+    room: &mut Room,
+    waiting: usize,
+    slot: &Slot,
+    source_header: usize,
+    number: &mut usize,
+) -> Step {
+    let have = input::more(room, waiting);
+    if have == waiting {
+        let last = next_number(*number);
+        on_line(slot, source_header, lent::part(room, 0, have), last);
+        return Step::End;
+    }
+    let rest = whole_lines(lent::part(room, 0, have), slot, source_header, number);
+    let left = input::to_front(room, rest, have);
+    Step::Waiting(input::without_long(room, left))
+}
+
+// Nothing says that the input ends, so the turns are counted down from a number that no run uses up.
+fn turns(room: &mut Room, slot: &Slot, source_header: usize) {
+    let mut number: usize = 0;
+    let mut waiting = 0;
+    let mut left = u64::MAX;
+    while left > 0 {
+        match turn(room, waiting, slot, source_header, &mut number) {
+            Step::Waiting(n) => waiting = n,
+            Step::End => return,
+        }
+        left -= 1;
+    }
+}
+
+pub fn run(slot: &Slot, source_header: usize) {
+    let mut room = input::room();
+    turns(&mut room, slot, source_header);
+}
