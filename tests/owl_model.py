@@ -139,7 +139,7 @@ def upgrades(slot, tape, header):
     for content in tape:
         target = bytearray(4096)
         answer = upgraded(slot, [], p.src_rtype, (header, p.header), content, len(content), target)
-        out += f"{answer}\n" if answer.startswith("r") else f"b {target[p.header : p.size].hex()}\n"
+        out += f"{answer}\n" if answer.startswith("r") else f"b{target[p.header : p.size].hex()}\n"
     return out
 
 

@@ -22,10 +22,10 @@ enum Step {
 
 // ---- one record
 
-// 'b', a blank and the bytes behind the header.
+// 'b' and the bytes behind the header.
 fn say_body(target: &[u8], header: usize, size: usize) {
     let mut out = [0u8; LONGEST];
-    let word = put::text(&mut out, 0, b"b ");
+    let word = put::text(&mut out, 0, b"b");
     if header <= size {
         let end = put::octets(&mut out, word, lent::part(target, header, size - header));
         let whole = put::byte(&mut out, end, NEWLINE);
