@@ -1,15 +1,15 @@
 -- Shifts of a xor are the xor of the shifts, so that each digit to base 16 has its own. Assumes nothing.
 use mathlib.Core.Path.{_≡_, refl, sym, ap, ap₂, _∙_}
 use mathlib.Core.List.{List}
-use Prim.Native.Nat.{ℕ, zero, suc, _+_, _-_, _*_, _/_, _%_, _^_, _<_, _≤_}
+use Prim.Native.Nat.{ℕ, zero, suc, _+_, _-_, _*_, _/_, _%_, _^_, _<_}
 use native.Mathlib.Nat.{le-of-suc-le-suc, not-suc-le-zero}
 use native.Mathlib.Omega.{arith}
-use lib.Bits.{bitXor, differ, xor-comm, xor-zero-r, xor-shifted}
+use lib.Bits.{bitXor, differ, xor-comm, xor-zero-l, xor-zero-r, xor-shifted}
 use lib.ListN.{getD}
 use Rattle.lent.specs.Scan.{gather}
-use Rattle.crc64.specs.Sum.{empty, shift, shifts, due, digitTable}
+use Rattle.crc64.specs.Sum.{empty, shift, shifts, digitTable}
 use Rattle.crc64.proofs.Xor.{xor-assoc, xor-half, xor-low}
-use Rattle.crc64.proofs.Shifts.{shift-product, shifts-above, shifts-split}
+use Rattle.crc64.proofs.Shifts.{shift-product, shifts-above}
 use Rattle.crc64.proofs.Words.{shifts-add}
 use Rattle.crc64.proofs.Entries.{entry}
 
@@ -41,42 +41,52 @@ unfolding shifts
 shifts-xor zero a b = refl
 shifts-xor (suc n) a b = ap (shifts n) (shift-xor a b) ∙ shifts-xor n (shift a) (shift b)
 
--- what stands from place k on, and what stands below it
-parts : (n h k low v : ℕ) → low < 2 ^ k → v ≡ h * 2 ^ k + low → shifts n v ≡ bitXor (shifts n (h * 2 ^ k)) (shifts n low)
-parts n h k low v small e = ap (shifts n) (e ∙ sym (xor-shifted h k low small)) ∙ shifts-xor n (h * 2 ^ k) low
-
--- sixteen shifts, by the digits
-pub by-digits : (x a b c d : ℕ) → a ≡ shifts 16 (x % 16 * 1) → b ≡ shifts 16 (x / 16 % 16 * 16) → c ≡ shifts 16 (x / 256 % 16 * 256) → d ≡ shifts 16 (x / 4096 % 16 * 4096)
-    → bitXor (x / 65536) (bitXor (bitXor d c) (bitXor b a)) ≡ shifts 16 x
-by-digits x a b c d ea eb ec ed =
-    let high : shifts 16 (x % 65536 / 256 * 256) ≡ bitXor (shifts 16 (x / 4096 % 16 * 4096)) (shifts 16 (x / 256 % 16 * 256)) = parts 16 (x / 4096 % 16) 12 (x / 256 % 16 * 256) (x % 65536 / 256 * 256) (omega arith) (omega arith) in
-    let low : shifts 16 (x % 256) ≡ bitXor (shifts 16 (x / 16 % 16 * 16)) (shifts 16 (x % 16 * 1)) = parts 16 (x / 16 % 16) 4 (x % 16 * 1) (x % 256) (omega arith) (omega arith) in
-    let both : shifts 16 (x % 65536) ≡ bitXor (shifts 16 (x % 65536 / 256 * 256)) (shifts 16 (x % 256)) = parts 16 (x % 65536 / 256) 8 (x % 256) (x % 65536) (omega arith) (omega arith) in
-    rw (ea, eb, ec, ed, ← high, ← low, ← both) (sym (shifts-split 16 x))
-
--- eight shifts come before those of a byte that stands eight places higher
-above : (z : ℕ) → shifts 16 (z * 256) ≡ shifts 8 z
+shifts-zero : (n : ℕ) → shifts n 0 ≡ 0
 unfolding shifts shift
-above z = shifts-add 8 8 (z * 256) ∙ ap (shifts 8) (ap (shifts 8) (sym (xor-zero-r (z * 256))) ∙ shifts-above 8 z 0 ∙ xor-zero-r z)
+shifts-zero zero = refl
+shifts-zero (suc n) = shifts-zero n
 
-pub by-two-digits : (x a b : ℕ) → a ≡ shifts 16 (x % 16 * 256) → b ≡ shifts 16 (x / 16 % 16 * 4096) → bitXor (x / 256) (bitXor b a) ≡ due x
-by-two-digits x a b ea eb =
-    let m : x / 16 % 16 * 4096 ≡ x / 16 % 16 * 16 * 256 = omega arith in
-    let low : shifts 8 (x % 256) ≡ bitXor (shifts 8 (x / 16 % 16 * 16)) (shifts 8 (x % 16)) = parts 8 (x / 16 % 16) 4 (x % 16) (x % 256) (omega arith) (omega arith) in
-    let fa : a ≡ shifts 8 (x % 16) = ea ∙ above (x % 16) in
-    let fb : b ≡ shifts 8 (x / 16 % 16 * 16) = eb ∙ ap (shifts 16) m ∙ above (x / 16 % 16 * 16) in
-    rw (fa, fb, ← low) (sym (shifts-split 8 x))
+-- what stands above a digit comes down by its four shifts
+come-down : (k h : ℕ) → shifts (4 * (k + 1)) (h * 2 ^ 4) ≡ shifts (4 * k) h
+come-down k h =
+    let f : 4 * (k + 1) ≡ 4 + 4 * k = omega arith in
+    ap (λ (n : ℕ). shifts n (h * 2 ^ 4)) f
+    ∙ shifts-add 4 (4 * k) (h * 2 ^ 4)
+    ∙ ap (shifts (4 * k)) (ap (shifts 4) (sym (xor-zero-r (h * 2 ^ 4))) ∙ shifts-above 4 h 0 ∙ ap (bitXor h) (shifts-zero 4) ∙ xor-zero-r h)
+
+-- of k + 1 digits the lowest goes out by all the shifts, those above it by four less
+digit-out : (k x : ℕ) → shifts (4 * (k + 1)) x ≡ bitXor (shifts (4 * (k + 1)) (x % 16)) (shifts (4 * k) (x / 16))
+digit-out k x =
+    let e : x ≡ x / 16 * 2 ^ 4 + x % 16 = omega arith in
+    ap (shifts (4 * (k + 1))) (e ∙ sym (xor-shifted (x / 16) 4 (x % 16) (omega arith)) ∙ xor-comm (x / 16 * 2 ^ 4) (x % 16))
+    ∙ shifts-xor (4 * (k + 1)) (x % 16) (x / 16 * 2 ^ 4)
+    ∙ ap (bitXor (shifts (4 * (k + 1)) (x % 16))) (come-down k (x / 16))
 
 -- an entry of the table of digits
-pub at-digit : (ts : List ℕ) → ts ≡ digitTable → (i d j : ℕ) → i < 64 → i % 16 ≡ d → i / 16 ≡ j → getD ts i 0 ≡ shifts 16 (d * 16 ^ j)
+pub at-digit : (ts : List ℕ) → ts ≡ digitTable → (k d : ℕ) → k < 10 → d < 16 → getD ts (16 * k + d) 0 ≡ shifts (4 * (k + 1)) d
 unfolding digitTable
-at-digit ts e i d j h ed ej =
-    ap (λ (l : List ℕ). getD l i 0) e
-    ∙ entry (λ i. shifts 16 (i % 16 * 16 ^ (i / 16))) 64 i h
-    ∙ ap₂ (λ (p q : ℕ). shifts 16 (p * 16 ^ q)) ed ej
+at-digit ts e k d h small =
+    let ek : (16 * k + d) / 16 ≡ k = omega arith in
+    let ed : (16 * k + d) % 16 ≡ d = omega arith in
+    ap (λ (l : List ℕ). getD l (16 * k + d) 0) e
+    ∙ entry (λ i. shifts (4 * (i / 16 + 1)) (i % 16)) 160 (16 * k + d) (omega arith)
+    ∙ ap₂ (λ (p q : ℕ). shifts (4 * (p + 1)) q) ek ed
 
--- two bytes of those that are left, shifted out
-pub pair-down : (left x all : ℕ) → shifts (8 * left) x ≡ all → 2 ≤ left → (r : ℕ) → r ≡ shifts 16 x → shifts (8 * (left - 2)) r ≡ all
-pair-down left x all so h r e =
-    let f : 8 * left ≡ 16 + 8 * (left - 2) = omega arith in
-    ap (shifts (8 * (left - 2))) e ∙ sym (shifts-add 16 (8 * (left - 2)) x) ∙ ap (λ (k : ℕ). shifts k x) (sym f) ∙ so
+-- all digits are left, and nothing is out
+pub digits-start : (n x : ℕ) → bitXor 0 (shifts (4 * (2 * n)) x) ≡ shifts (8 * n) x
+digits-start n x =
+    let e : 4 * (2 * n) ≡ 8 * n = omega arith in
+    xor-zero-l (shifts (4 * (2 * n)) x) ∙ ap (λ (k : ℕ). shifts k x) e
+
+-- a turn: the digits left, shifted out, give the whole
+module _ (left sum rest all : ℕ) (so : bitXor sum (shifts (4 * left) rest) ≡ all) where
+  pub digit-goes : 0 < left → (t : ℕ) → t ≡ shifts (4 * (left - 1 + 1)) (rest % 16) → bitXor (bitXor sum t) (shifts (4 * (left - 1)) (rest / 16)) ≡ all
+  digit-goes h t e =
+      let f : left ≡ left - 1 + 1 = omega arith in
+      xor-assoc sum t (shifts (4 * (left - 1)) (rest / 16))
+      ∙ ap (bitXor sum) (ap (λ (y : ℕ). bitXor y (shifts (4 * (left - 1)) (rest / 16))) e ∙ sym (digit-out (left - 1) rest) ∙ ap (λ (k : ℕ). shifts (4 * k) rest) (sym f))
+      ∙ so
+
+  pub digits-end : left ≡ 0 → bitXor sum rest ≡ all
+  unfolding shifts
+  digits-end e = sym (ap (λ (k : ℕ). bitXor sum (shifts (4 * k) rest)) e) ∙ so

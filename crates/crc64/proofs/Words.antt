@@ -1,6 +1,6 @@
 -- A number of n bytes goes in at once: what stands above the low byte only comes down. Assumes nothing.
 use mathlib.Core.Path.{_≡_, refl, sym, ap, _∙_}
-use Prim.Native.Nat.{ℕ, zero, suc, _+_, _-_, _*_, _/_, _%_, _^_, _<_}
+use Prim.Native.Nat.{ℕ, zero, suc, _+_, _*_, _/_, _%_, _^_, _<_}
 use native.Mathlib.Nat.{pow-succ'}
 use native.Mathlib.Omega.{arith}
 use lib.Bits.{bitXor, xor-zero-r, xor-comm, xor-shifted}
@@ -37,13 +37,3 @@ number-goes (suc n) fp v h =
     ∙ shifts-add 8 (8 * n) (bitXor fp v)
     ∙ ap (shifts (8 * n)) (ap (λ (w : ℕ). due (bitXor fp w)) f ∙ brought fp (v % 256) (v / 256) (omega arith))
     ∙ number-goes n (byteStep fp (v % 256)) (v / 256) g
-
-module _ (left x all : ℕ) (so : shifts (8 * left) x ≡ all) where
-  pub byte-down : 0 < left → (r : ℕ) → r ≡ due x → shifts (8 * (left - 1)) r ≡ all
-  byte-down h r e =
-      let f : 8 * left ≡ 8 + 8 * (left - 1) = omega arith in
-      ap (shifts (8 * (left - 1))) e ∙ sym (shifts-add 8 (8 * (left - 1)) x) ∙ ap (λ (k : ℕ). shifts k x) (sym f) ∙ so
-
-  pub all-down : left ≡ 0 → x ≡ all
-  unfolding shifts
-  all-down e = let f : 8 * left ≡ 0 = omega arith in sym (ap (λ (k : ℕ). shifts k x) f) ∙ so

@@ -1,5 +1,5 @@
 -- The sum's rule, bit by bit.
-use Prim.Native.Nat.{ℕ, zero, suc, _*_, _/_, _%_, _^_}
+use Prim.Native.Nat.{ℕ, zero, suc, _+_, _*_, _/_, _%_}
 use mathlib.Core.Bool.{cond}
 use mathlib.Core.List.{List, [], _∷_}
 use lib.Bits.{bitXor}
@@ -38,6 +38,6 @@ bytesStep fp (b ∷ bs) = bytesStep (byteStep fp b) bs
 unfoldable pub byteTable : List ℕ
 byteTable = gather (shifts 8) 1 0 256
 
--- what sixteen shifts give, for each digit to base 16 at each of four places
+-- what shifting a digit to base 16 out gives, with the k digits above it, for each digit and each k below ten
 unfoldable pub digitTable : List ℕ
-digitTable = gather (λ i. shifts 16 (i % 16 * 16 ^ (i / 16))) 1 0 64
+digitTable = gather (λ i. shifts (4 * (i / 16 + 1)) (i % 16)) 1 0 160

@@ -1,44 +1,28 @@
-// Two bytes at a time, by a table of what sixteen shifts give for each digit to base 16 at each of their four places. It is a
-// quarter of the table of bytes, which matters where few numbers go in, and its four look-ups wait for nothing but the sum.
+// A number at a time, by a table of what each of its digits to base 16 gives when it is shifted out with those above it. The table is
+// smaller than that of bytes, which matters where few numbers go in, and a number's look-ups wait for nothing but the sum.
 ghost use mathlib.Core.Path.{_≡_};
-ghost use Prim.Native.Nat.{_<_, _^_};
+ghost use Prim.Native.Nat.{_<_, _≤_, _^_};
 ghost use Rattle.lent.specs.Bytes.{bytesOf};
-ghost use Rattle.crc64.specs.Sum.{digitTable, shifts, due, bytesStep};
+ghost use Rattle.crc64.specs.Sum.{digitTable, bytesStep};
 
-// Entry 16 j + d is sixteen shifts of the digit d at place j.
-const TABLE: [u64; 64] = [
+// Entry 16 k + d is the digit d with k digits above it: 4 (k + 1) shifts of d. Ten digits are five bytes.
+const TABLE: [u64; 160] = [
     0x0000000000000000,
-    0x05236C469902B0F3,
-    0x0A46D88D320561E6,
-    0x0F65B4CBAB07D115,
-    0x148DB11A640AC3CC,
-    0x11AEDD5CFD08733F,
-    0x1ECB6997560FA22A,
-    0x1BE805D1CF0D12D9,
-    0x291B6234C8158798,
-    0x2C380E725117376B,
-    0x235DBAB9FA10E67E,
-    0x267ED6FF6312568D,
-    0x3D96D32EAC1F4454,
-    0x38B5BF68351DF4A7,
-    0x37D00BA39E1A25B2,
-    0x32F367E507189541,
-    0x0000000000000000,
-    0x5236C469902B0F30,
-    0xA46D88D320561E60,
-    0xF65B4CBAB07D1150,
-    0xCA6153D3090373EB,
-    0x985797BA99287CDB,
-    0x6E0CDB0029556D8B,
-    0x3C3A1F69B97E62BB,
-    0x1678E5D35BA9A8FD,
-    0x444E21BACB82A7CD,
-    0xB2156D007BFFB69D,
-    0xE023A969EBD4B9AD,
-    0xDC19B60052AADB16,
-    0x8E2F7269C281D426,
-    0x78743ED372FCC576,
-    0x2A42FABAE2D7CA46,
+    0x48D27CF4AFC4CEDD,
+    0x91A4F9E95F899DBA,
+    0xD976851DF04D5367,
+    0xA1F3B1A7F6BC745F,
+    0xE921CD535978BA82,
+    0x3057484EA935E9E5,
+    0x788534BA06F12738,
+    0xC15D213AA4D7A795,
+    0x898F5DCE0B136948,
+    0x50F9D8D3FB5E3A2F,
+    0x182BA427549AF4F2,
+    0x60AE909D526BD3CA,
+    0x287CEC69FDAF1D17,
+    0xF10A69740DE24E70,
+    0xB9D81580A22680AD,
     0x0000000000000000,
     0x2CF1CBA6B75351FA,
     0x59E3974D6EA6A3F4,
@@ -56,63 +40,154 @@ const TABLE: [u64; 64] = [
     0x0F10A69740DE24E7,
     0x23E16D31F78D751D,
     0x0000000000000000,
-    0x48D27CF4AFC4CEDD,
-    0x91A4F9E95F899DBA,
-    0xD976851DF04D5367,
-    0xA1F3B1A7F6BC745F,
-    0xE921CD535978BA82,
-    0x3057484EA935E9E5,
-    0x788534BA06F12738,
-    0xC15D213AA4D7A795,
-    0x898F5DCE0B136948,
-    0x50F9D8D3FB5E3A2F,
-    0x182BA427549AF4F2,
-    0x60AE909D526BD3CA,
-    0x287CEC69FDAF1D17,
-    0xF10A69740DE24E70,
-    0xB9D81580A22680AD,
+    0x5236C469902B0F30,
+    0xA46D88D320561E60,
+    0xF65B4CBAB07D1150,
+    0xCA6153D3090373EB,
+    0x985797BA99287CDB,
+    0x6E0CDB0029556D8B,
+    0x3C3A1F69B97E62BB,
+    0x1678E5D35BA9A8FD,
+    0x444E21BACB82A7CD,
+    0xB2156D007BFFB69D,
+    0xE023A969EBD4B9AD,
+    0xDC19B60052AADB16,
+    0x8E2F7269C281D426,
+    0x78743ED372FCC576,
+    0x2A42FABAE2D7CA46,
+    0x0000000000000000,
+    0x05236C469902B0F3,
+    0x0A46D88D320561E6,
+    0x0F65B4CBAB07D115,
+    0x148DB11A640AC3CC,
+    0x11AEDD5CFD08733F,
+    0x1ECB6997560FA22A,
+    0x1BE805D1CF0D12D9,
+    0x291B6234C8158798,
+    0x2C380E725117376B,
+    0x235DBAB9FA10E67E,
+    0x267ED6FF6312568D,
+    0x3D96D32EAC1F4454,
+    0x38B5BF68351DF4A7,
+    0x37D00BA39E1A25B2,
+    0x32F367E507189541,
+    0x0000000000000000,
+    0xD924B3D999DD7868,
+    0x30F325C67A15BFFB,
+    0xE9D7961FE3C8C793,
+    0x61E64B8CF42B7FF6,
+    0xB8C2F8556DF6079E,
+    0x51156E4A8E3EC00D,
+    0x8831DD9317E3B865,
+    0xC3CC9719E856FFEC,
+    0x1AE824C0718B8784,
+    0xF33FB2DF92434017,
+    0x2A1B01060B9E387F,
+    0xA22ADC951C7D801A,
+    0x7B0E6F4C85A0F872,
+    0x92D9F95366683FE1,
+    0x4BFD4A8AFFB54789,
+    0x0000000000000000,
+    0xCCCF6A073D4A7013,
+    0x1B24967B333BAF0D,
+    0xD7EBFC7C0E71DF1E,
+    0x36492CF666775E1A,
+    0xFA8646F15B3D2E09,
+    0x2D6DBA8D554CF117,
+    0xE1A2D08A68068104,
+    0x6C9259ECCCEEBC34,
+    0xA05D33EBF1A4CC27,
+    0x77B6CF97FFD51339,
+    0xBB79A590C29F632A,
+    0x5ADB751AAA99E22E,
+    0x96141F1D97D3923D,
+    0x41FFE36199A24D23,
+    0x8D308966A4E83D30,
+    0x0000000000000000,
+    0xD5BA73BD8399F466,
+    0x29CEA50E4E9CA7E7,
+    0xFC74D6B3CD055381,
+    0x539D4A1C9D394FCE,
+    0x862739A11EA0BBA8,
+    0x7A53EF12D3A5E829,
+    0xAFE99CAF503C1C4F,
+    0xA73A94393A729F9C,
+    0x7280E784B9EB6BFA,
+    0x8EF4313774EE387B,
+    0x5B4E428AF777CC1D,
+    0xF4A7DE25A74BD052,
+    0x211DAD9824D22434,
+    0xDD697B2BE9D777B5,
+    0x08D308966A4E83D3,
+    0x0000000000000000,
+    0x3D0CEF75710C76A3,
+    0x7A19DEEAE218ED46,
+    0x4715319F93149BE5,
+    0xF433BDD5C431DA8C,
+    0xC93F52A0B53DAC2F,
+    0x8E2A633F262937CA,
+    0xB3268C4A57254169,
+    0x6ADD39DEC1CCFA33,
+    0x57D1D6ABB0C08C90,
+    0x10C4E73423D41775,
+    0x2DC8084152D861D6,
+    0x9EEE840B05FD20BF,
+    0xA3E26B7E74F1561C,
+    0xE4F75AE1E7E5CDF9,
+    0xD9FBB59496E9BB5A,
+    0x0000000000000000,
+    0xDAA64BEAA75D940D,
+    0x37F6D5A007146731,
+    0xED509E4AA049F33C,
+    0x6FEDAB400E28CE62,
+    0xB54BE0AAA9755A6F,
+    0x581B7EE0093CA953,
+    0x82BD350AAE613D5E,
+    0xDFDB56801C519CC4,
+    0x057D1D6ABB0C08C9,
+    0xE82D83201B45FBF5,
+    0x328BC8CABC186FF8,
+    0xB036FDC0127952A6,
+    0x6A90B62AB524C6AB,
+    0x87C02860156D3597,
+    0x5D66638AB230A19A,
+    0x0000000000000000,
+    0x25D688D757DAC457,
+    0x4BAD11AEAFB588AE,
+    0x6E7B9979F86F4CF9,
+    0x975A235D5F6B115C,
+    0xB28CAB8A08B1D50B,
+    0xDCF732F3F0DE99F2,
+    0xF921BA24A7045DA5,
+    0xAC0E04CFF7796D93,
+    0x89D88C18A0A3A9C4,
+    0xE7A3156158CCE53D,
+    0xC2759DB60F16216A,
+    0x3B542792A8127CCF,
+    0x1E82AF45FFC8B898,
+    0x70F9363C07A7F461,
+    0x552FBEEB507D3036,
 ];
 
-pub fn table() -> [u64; 64]
+pub fn table() -> [u64; 160]
     ensures { λ r. ⌜ r ≡ digitTable ⌝ }
 {
     TABLE
 }
 
-fn two_down(t: &[u64; 64], x: u64) -> u64
-    requires { ⌜ now t ≡ digitTable ⌝ }
-    ensures { λ r. ⌜ r ≡ shifts 16 x ⌝ }
-{
-    let a = (x % 16) as usize;
-    let b = (x / 16 % 16) as usize;
-    let c = (x / 256 % 16) as usize;
-    let d = (x / 4096 % 16) as usize;
-    (x / 65536) ^ ((t[48 + d] ^ t[32 + c]) ^ (t[16 + b] ^ t[a]))
-}
-
-// A digit two places higher has eight shifts less before it.
-fn one_down(t: &[u64; 64], x: u64) -> u64
-    requires { ⌜ now t ≡ digitTable ⌝ }
-    ensures { λ r. ⌜ r ≡ due x ⌝ }
-{
-    let a = (x % 16) as usize;
-    let b = (x / 16 % 16) as usize;
-    (x / 256) ^ (t[48 + b] ^ t[32 + a])
-}
-
-// A number of n bytes, the low one first: all of it is xored in at once, and then each byte's shifts follow.
-pub fn step_number(t: &[u64; 64], fp: u64, v: u64, n: usize) -> u64
-    requires { ⌜ (now t ≡ digitTable) × (v < 256 ^ n) ⌝ }
+// A number of n bytes, the low one first: all of it is xored in at once, and then each digit's shifts follow, the low one first.
+pub fn step_number(t: &[u64; 160], fp: u64, v: u64, n: usize) -> u64
+    requires { ⌜ (now t ≡ digitTable) × (n ≤ 5) × (v < 256 ^ n) ⌝ }
     ensures { λ r. ⌜ r ≡ bytesStep fp (bytesOf n v) ⌝ }
 {
-    let mut x = fp ^ v;
-    let mut left = n;
-    while 2 <= left {
-        x = two_down(t, x);
-        left -= 2;
+    let mut rest = fp ^ v;
+    let mut sum: u64 = 0;
+    let mut left = 2 * n;
+    while left != 0 {
+        left -= 1;
+        let digit = (rest % 16) as usize;
+        sum = sum ^ t[16 * left + digit];
+        rest = rest / 16;
     }
-    if left == 0 {
-        return x;
-    }
-    one_down(t, x)
+    sum ^ rest
 }

@@ -10,29 +10,27 @@ use Rattle.field.specs.Field.{byteOf}
 use Rattle.field.specs.declared.FieldDef.{FieldDef}
 use Rattle.hash.specs.Walk.{fieldBytes}
 
--- a field's numbers have the sizes of their types
+-- the numbers that others stand above have the sizes of their types
 pub record Ranges (f : FieldDef) : Type 0 where
   pub id : f .«field_id» < 65536
-  pub offset : f .offset < 65536
   pub size : f .size < 65536
   pub type : f .«type_id» < 256
   pub flags : f .flags < 256
-  pub scale : byteOf (f .scale) < 256
 
--- its first five numbers, joined, and its scale
+-- its first two numbers, joined, and its last four
 pub fed-field : (f : FieldDef) → Ranges f → (fp sum r : ℕ)
-    → sum ≡ bytesStep fp (bytesOf 8 (f .«field_id» + 65536 * (f .offset + 65536 * (f .size + 65536 * (f .«type_id» + 256 * f .flags)))))
-    → r ≡ bytesStep sum (bytesOf 1 (byteOf (f .scale)))
+    → sum ≡ bytesStep fp (bytesOf 4 (f .«field_id» + 65536 * f .offset))
+    → r ≡ bytesStep sum (bytesOf 5 (f .size + 65536 * (f .«type_id» + 256 * (f .flags + 256 * byteOf (f .scale)))))
     → r ≡ bytesStep fp (fieldBytes f)
 unfolding fieldBytes
 fed-field f g fp sum r es er =
     er
     ∙ rw (
       es,
-      bytes-add 2 6 (f .«field_id») (f .offset + 65536 * (f .size + 65536 * (f .«type_id» + 256 * f .flags))) (g .id),
-      bytes-add 2 4 (f .offset) (f .size + 65536 * (f .«type_id» + 256 * f .flags)) (g .offset),
-      bytes-add 2 2 (f .size) (f .«type_id» + 256 * f .flags) (g .size),
-      bytes-add 1 1 (f .«type_id») (f .flags) (g .type),
+      bytes-add 2 2 (f .«field_id») (f .offset) (g .id),
+      bytes-add 2 3 (f .size) (f .«type_id» + 256 * (f .flags + 256 * byteOf (f .scale))) (g .size),
+      bytes-add 1 2 (f .«type_id») (f .flags + 256 * byteOf (f .scale)) (g .type),
+      bytes-add 1 1 (f .flags) (byteOf (f .scale)) (g .flags),
       ← joined,
     )
     (simp append-assoc)

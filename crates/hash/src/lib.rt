@@ -29,15 +29,16 @@ enum Visit {
     Over,
 }
 
-// A field's own bytes: the eight that stand together in its row go in as one number, then the scale.
-fn field_sum(t: &[u64; 64], start: u64, f: FieldDef) -> u64
+// A field's own bytes, as two numbers: its id and offset; its size, type, flags and scale.
+fn field_sum(t: &[u64; 160], start: u64, f: FieldDef) -> u64
     requires { ⌜ now t ≡ digitTable ⌝ }
     ensures { λ r. ⌜ r ≡ bytesStep start (fieldBytes f) ⌝ }
 {
-    let kind = (f.type_id as u64) + 256 * (f.flags as u64);
-    let place = (f.offset as u64) + 65536 * ((f.size as u64) + 65536 * kind);
-    let sum = digitwise::step_number(t, start, (f.field_id as u64) + 65536 * place, 8);
-    digitwise::step_number(t, sum, field::scale_byte(f.scale) as u64, 1)
+    let place = (f.field_id as u64) + 65536 * (f.offset as u64);
+    let scale = field::scale_byte(f.scale) as u64;
+    let kind = (f.type_id as u64) + 256 * ((f.flags as u64) + 256 * scale);
+    let sum = digitwise::step_number(t, start, place, 4);
+    digitwise::step_number(t, sum, (f.size as u64) + 65536 * kind, 5)
 }
 
 fn names_struct(cat: &[u8], l: &[u8], f: FieldDef) -> bool
@@ -47,7 +48,7 @@ fn names_struct(cat: &[u8], l: &[u8], f: FieldDef) -> bool
 }
 
 // A struct's size, which goes in before its fields: two bytes.
-fn size_sum(t: &[u64; 64], start: u64, size: usize) -> u64
+fn size_sum(t: &[u64; 160], start: u64, size: usize) -> u64
     requires { ⌜ now t ≡ digitTable ⌝ }
     ensures { λ r. ⌜ r ≡ bytesStep start (bytesOf 2 size) ⌝ }
 {
@@ -58,7 +59,7 @@ fn size_sum(t: &[u64; 64], start: u64, size: usize) -> u64
 fn visited(
     cat: &[u8],
     l: &[u8],
-    t: &[u64; 64],
+    t: &[u64; 160],
     budget: usize,
     f: FieldDef,
     fp: u64,
@@ -83,7 +84,7 @@ fn visited(
 fn hash_field(
     cat: &[u8],
     l: &[u8],
-    t: &[u64; 64],
+    t: &[u64; 160],
     levels: usize,
     budget: usize,
     f: FieldDef,
@@ -107,7 +108,7 @@ fn hash_field(
 fn hash_table(
     cat: &[u8],
     l: &[u8],
-    t: &[u64; 64],
+    t: &[u64; 160],
     levels: usize,
     budget: usize,
     table: &[u8],

@@ -103,7 +103,7 @@ copied-last s d d₀ a b n i m h low high l inv =
     let eb : b + i ≡ (b + (n - m)) + (i - (n - m)) = omega arith in
     let en : n ≡ (n - m) + m = omega arith in
     let whole : sets d₀ b (window s a n) ≡ sets (sets d₀ b front) (b + (n - m)) tail =
-        ap (λ k. sets d₀ b (window s a k)) en ∙ ap (λ r. sets d₀ b r) (window-add s a (n - m) m (omega arith)) ∙ sym (sets-then d₀ front tail b) ∙ ap (λ k. sets (sets d₀ b front) (b + k) tail) lf in
+    ap (λ k. sets d₀ b (window s a k)) en ∙ ap (λ r. sets d₀ b r) (window-add s a (n - m) m (omega arith)) ∙ sym (sets-then d₀ front tail b) ∙ ap (λ k. sets (sets d₀ b front) (b + k) tail) lf in
     let z : (b + (n - m)) + 0 ≡ b + (n - m) = omega arith in
     sym (sets-over d tail rest (b + (n - m)) (i - (n - m)) (omega (arith, lr, lt)))
     ∙ ap (λ k. sets (sets d k rest) (b + (n - m)) tail) (sym eb)

@@ -97,7 +97,18 @@ fn between(
     if room.len() < slot::SIZE {
         return Planned::Refused(Refusal::NoRoom);
     }
-    lay(cat, source, from, target, to, size, header, body, marks, room);
+    lay(
+        cat,
+        source,
+        from,
+        target,
+        to,
+        size,
+        header,
+        body,
+        marks,
+        room,
+    );
     Planned::Made
 }
 

@@ -40,9 +40,11 @@ counts-requires c κs = search needs
 
 returns : tie.Need-returns Inv-loop μ-loop
 returns c =
-    let a = c .before .before .before .before .before .before .before .before .before .args in let l = c .before .before .before .before .before .before .loop in
-    (rw (c .before .before .before .wide16 .ensures .0, c .before .before .wide162 .ensures .0, c .before .before .before .before .field-in .ensures) (first-here (fieldAt (a .table .now)) 16 (l .at) (l .left) (λ f. counts (a .cat .now) f && holds f (a .i)) (λ f. f .offset + f .size) (a .i) _ (l .inv .1) (omega arith)
-        (rw (← c .before .before .before .before .field-in .ensures, ← c .before .counts .ensures, ← c .before .before .before .wide16 .ensures .0, ← c .before .before .wide162 .ensures .0) (c .if1 .taken))), omega arith)
+    let a = c .before .before .before .before .before .before .before .before .before .args in let l = c .before .before .before .before .before .before .loop in (
+      rw (c .before .before .before .wide16 .ensures .0, c .before .before .wide162 .ensures .0, c .before .before .before .before .field-in .ensures) (first-here (fieldAt (a .table .now)) 16 (l .at) (l .left) (λ f. counts (a .cat .now) f && holds f (a .i)) (λ f. f .offset + f .size) (a .i) _ (l .inv .1) (omega arith)
+          (rw (← c .before .before .before .before .field-in .ensures, ← c .before .counts .ensures, ← c .before .before .before .wide16 .ensures .0, ← c .before .before .wide162 .ensures .0) (c .if1 .taken))),
+      omega arith,
+    )
 
 add-at : tie.Need-add-at Inv-loop μ-loop
 add-at c = omega arith
@@ -55,9 +57,11 @@ loop-less c = omega arith
 
 loop-again : tie.Need-loop-again Inv-loop μ-loop
 loop-again c =
-    let a = c .before .before .before .before .before .before .before .before .before .args in let l = c .before .before .before .before .before .before .loop in
-    (omega arith, first-later (fieldAt (a .table .now)) 16 (l .at) (l .left) (λ f. counts (a .cat .now) f && holds f (a .i)) (λ f. f .offset + f .size) (a .i) _ (l .inv .1) (omega arith)
-        (rw (← c .before .before .before .before .field-in .ensures, ← c .before .counts .ensures, ← c .before .before .before .wide16 .ensures .0, ← c .before .before .wide162 .ensures .0) (c .if1 .left)))
+    let a = c .before .before .before .before .before .before .before .before .before .args in let l = c .before .before .before .before .before .before .loop in (
+      omega arith,
+      first-later (fieldAt (a .table .now)) 16 (l .at) (l .left) (λ f. counts (a .cat .now) f && holds f (a .i)) (λ f. f .offset + f .size) (a .i) _ (l .inv .1) (omega arith)
+          (rw (← c .before .before .before .before .field-in .ensures, ← c .before .counts .ensures, ← c .before .before .before .wide16 .ensures .0, ← c .before .before .wide162 .ensures .0) (c .if1 .left)),
+    )
 
 returns-2 : tie.Need-returns-2 Inv-loop μ-loop
 returns-2 c =

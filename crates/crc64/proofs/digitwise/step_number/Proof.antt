@@ -1,48 +1,51 @@
--- The bytes left, shifted out, give the whole.
-use Prim.Native.Nat.{_*_, _-_}
-use borrow.Author.Needs.{needs}
-use lib.Bits.{bitXor}
-use mathlib.Core.Path.{_∙_, _≡_, refl}
-use native.Mathlib.Omega.{arith}
-use Rattle.crc64.proofs.Digits.{pair-down}
-use Rattle.crc64.proofs.Words.{all-down, byte-down, number-goes}
+-- The digits left, shifted out, give the whole.
+use Prim.Native.Nat.{_%_, _*_, _-_, _≤_}
+use Rattle.crc64.proofs.Digits.{at-digit, digit-goes, digits-end, digits-start}
+use Rattle.crc64.proofs.Words.{number-goes}
 use Rattle.crc64.specs.Sum.{shifts}
-use mathlib.Core.Path.{_∙_, _≡_, refl}
-use Prim.Native.Nat.{_*_}
 use lib.Bits.{bitXor}
-use Rattle.crc64.specs.Sum.{shifts}
-use Rattle.crc64.proofs.Words.{all-down, byte-down, number-goes}
-use Rattle.crc64.proofs.Digits.{pair-down}
+use mathlib.Core.Path.{_∙_, _≡_}
 use native.Mathlib.Omega.{arith}
 use Rattle.crc64.proofs.digitwise.step_number.Statement.{statement}
 use Rattle.crc64.proofs.digitwise.step_number.Tie as tie
 
 abbrev Inv-loop : tie.InvT-loop
-Inv-loop t fp v n x₀ left₀ x left = shifts (8 * left) x ≡ shifts (8 * n) (bitXor fp v)
+Inv-loop t fp v n rest₀ sum₀ left₀ rest sum left = (left ≤ 10) × (bitXor sum (shifts (4 * left) rest) ≡ shifts (8 * n) (bitXor fp v))
 
 abbrev μ-loop : tie.MeasureT-loop
-μ-loop t fp v n x₀ left₀ x left = left
+μ-loop t fp v n rest₀ sum₀ left₀ rest sum left = left
+
+mul-left : tie.Need-mul-left Inv-loop μ-loop
+mul-left c = omega arith
 
 loop-holds : tie.Need-loop-holds Inv-loop μ-loop
-loop-holds c = refl
+loop-holds c = (omega arith, digits-start (c .args .n) (bitXor (c .args .fp) (c .args .v)))
 
-two-down-requires : tie.Need-two-down-requires Inv-loop μ-loop
-two-down-requires c κs = search needs
+sub-left : tie.Need-sub-left Inv-loop μ-loop
+sub-left c = omega arith
+
+mul-sum : tie.Need-mul-sum Inv-loop μ-loop
+mul-sum c = omega arith
+
+add-sum : tie.Need-add-sum Inv-loop μ-loop
+add-sum c = omega arith
+
+mul-sum-2 : tie.Need-mul-sum-2 Inv-loop μ-loop
+mul-sum-2 c = omega arith
+
+element-copy-out-sum : tie.Need-element-copy-out-sum Inv-loop μ-loop
+element-copy-out-sum c = omega arith
 
 loop-less : tie.Need-loop-less Inv-loop μ-loop
 loop-less c = omega arith
 
 loop-again : tie.Need-loop-again Inv-loop μ-loop
-loop-again c = pair-down (c .before .before .loop .left) (c .before .before .loop .x) _ (c .before .before .loop .inv) (omega arith) _ (c .two-down .ensures)
+loop-again c =
+    (omega arith, digit-goes (c .before .before .loop .left) (c .before .before .loop .sum) (c .before .before .loop .rest) _ (c .before .before .loop .inv .1) (omega arith) _ (at-digit _ (c .before .before .before .pre .0) (c .before .before .loop .left - 1) (c .before .before .loop .rest % 16) (omega arith) (omega arith)))
 
 returns : tie.Need-returns Inv-loop μ-loop
-returns c = all-down (c .before .before .loop .left) (c .before .before .loop .x) _ (c .before .before .loop .inv) (omega arith) ∙ number-goes (c .before .before .before .args .n) (c .before .before .before .args .fp) (c .before .before .before .args .v) (c .before .before .before .pre .1)
-
-one-down-requires : tie.Need-one-down-requires Inv-loop μ-loop
-one-down-requires c κs = search needs
-
-returns-2 : tie.Need-returns-2 Inv-loop μ-loop
-returns-2 c = all-down (c .before .before .before .loop .left - 1) _ _ (byte-down (c .before .before .before .loop .left) (c .before .before .before .loop .x) _ (c .before .before .before .loop .inv) (omega arith) _ (c .one-down .ensures)) (omega arith) ∙ number-goes (c .before .before .before .before .args .n) (c .before .before .before .before .args .fp) (c .before .before .before .before .args .v) (c .before .before .before .before .pre .1)
+returns c =
+    digits-end (c .before .loop .left) (c .before .loop .sum) (c .before .loop .rest) _ (c .before .loop .inv .1) (omega arith) ∙ number-goes (c .before .before .args .n) (c .before .before .args .fp) (c .before .before .args .v) (c .before .before .pre .2)
 
 pub step-number-spec : {M : Type 1} → statement M
 step-number-spec =
@@ -50,10 +53,13 @@ step-number-spec =
     (tie.spec
     Inv-loop
     μ-loop
+    mul-left
     loop-holds
-    two-down-requires
+    sub-left
+    mul-sum
+    add-sum
+    mul-sum-2
+    element-copy-out-sum
     loop-less
     loop-again
-    returns
-    one-down-requires
-    returns-2)
+    returns)
