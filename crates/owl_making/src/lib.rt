@@ -11,7 +11,7 @@ use owl_fields::room::Catalogue;
 use owl_fields::room::Marks;
 use owl_fields::state::State;
 use owl_fields::state::Took;
-use owl_say::messages;
+use owl_say::refusals;
 use plan_text::writer::Written;
 use tuppenceowl::Sized;
 use tuppenceowl::hashing;
@@ -34,15 +34,15 @@ fn refused(text: &[u8], s: State, to: u8, r: Refusal) {
         _ => 0,
     };
     if line == 0 {
-        messages::place(owl_layouts::line_of(text, b"target", to));
+        owl_faults::place(owl_layouts::line_of(text, b"target", to));
     } else {
-        messages::place(line);
+        owl_faults::place(line);
     }
-    messages::refused(STDERR_FILENO, r);
+    refusals::refused(STDERR_FILENO, r);
 }
 
 fn no_target(source: &Block, k: u8) {
-    messages::of_file(b": no target record is selected for the source's '");
+    owl_faults::of_file(b": no target record is selected for the source's '");
     owl_say::complain(pack::name_of(Holder::Record, source, k));
     owl_say::complain(b"';\n  expected one of its rtype, or a line 'plan SOURCE TARGET'\n");
 }
@@ -102,7 +102,7 @@ fn planned(
         slot,
     ) {
         Planned::Made => return true,
-        Planned::NoRecord => messages::of_file(
+        Planned::NoRecord => owl_faults::of_file(
             b": a record is missing; expected a source and a target\n",
         ),
         Planned::Refused(r) => refused(text, s, to, r),
@@ -136,7 +136,7 @@ fn plan(
             );
         }
         Selected::Unplanned => no_target(source, s.source),
-        Selected::NoRecord => messages::of_file(
+        Selected::NoRecord => owl_faults::of_file(
             b": no source record; expected a line 'source NAME RTYPE SCHEMA'\n",
         ),
         Selected::Refused(r) => refused(text, s, 0, r),
@@ -148,7 +148,7 @@ pub fn say_plan(slot: &Slot) {
     let mut text = [0u8; 16384];
     match texting::write_plan(slot, &mut text) {
         Written::Length(n) => owl_say::out(lent::part(&text, 0, n)),
-        Written::Refused(r) => messages::refused(STDERR_FILENO, r),
+        Written::Refused(r) => refusals::refused(STDERR_FILENO, r),
     }
 }
 
@@ -180,7 +180,7 @@ fn hashed(side: &[u8], cat: &Catalogue, l: &Block, end: usize, k: u8) -> bool {
         Summed::NoRecord => return false,
         Summed::Refused(r) => {
             say_record(side, l, k);
-            messages::refused(STDOUT_FILENO, r);
+            refusals::refused(STDOUT_FILENO, r);
         }
     }
     true
@@ -216,7 +216,7 @@ pub fn plan_of(text: &[u8], slot: &mut Slot) -> bool {
     match took {
         Took::Next(s) => plan(text, &cat, &source, &target, &bodies, &marks, s, slot),
         Took::Bad(f) => {
-            messages::fault(text, f);
+            owl_faults::fault(text, f);
             false
         }
     }
@@ -241,6 +241,6 @@ pub fn say_hashes(text: &[u8]) {
             hashes(b"source ", &cat, &source, s.source_end);
             hashes(b"target ", &cat, &target, s.target_end);
         }
-        Took::Bad(f) => messages::fault(text, f),
+        Took::Bad(f) => owl_faults::fault(text, f),
     }
 }

@@ -50,7 +50,8 @@ fn read(fd: i32, path: &[u8], text: &mut Text) -> Loaded {
     Loaded::Bytes(n)
 }
 
-fn load(k: usize, text: &mut Text) -> Loaded {
+// The file that argument k names.
+pub fn load(k: usize, text: &mut Text) -> Loaded {
     let mut path = io::buffer();
     let length = os::arg(k, &mut path);
     if os::errno() != 0 {

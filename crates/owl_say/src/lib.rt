@@ -1,6 +1,6 @@
 // What is written: results to standard output, messages to standard error.
 pub mod files;
-pub mod messages;
+pub mod refusals;
 
 use libc::STDERR_FILENO;
 use libc::STDOUT_FILENO;

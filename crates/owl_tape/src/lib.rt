@@ -6,8 +6,7 @@ use input::Room;
 use libc::STDOUT_FILENO;
 use owl_map::numbers;
 use owl_map::numbers::Slot;
-use owl_say::messages;
-use tuppenceowl::upgrading;
+use owl_say::refusals;
 
 const NEWLINE: u8 = b'\n';
 
@@ -43,7 +42,7 @@ pub fn upgrade(slot: &Slot, source_header: usize, record: &[u8]) {
     let rtype = in_two_bytes(numbers::number(slot, 0));
     let header = numbers::header(slot);
     let ids = [0u16; 1];
-    let answer = upgrading::upgrade(
+    let answer = dispatch::upgrade(
         slot,
         &ids[0..0],
         rtype,
@@ -55,7 +54,7 @@ pub fn upgrade(slot: &Slot, source_header: usize, record: &[u8]) {
     );
     match answer {
         Upgraded::Done(_, size) => say_body(&target, header, size),
-        Upgraded::Refused(r) => messages::refused(STDOUT_FILENO, r),
+        Upgraded::Refused(r) => refusals::refused(STDOUT_FILENO, r),
     }
 }
 
