@@ -1,5 +1,4 @@
 //! Prints what a call of the port takes beside one of the Rust. All rows of both tables are timed in one pass.
-mod boundary;
 mod cursors;
 mod inputs;
 mod measure;
@@ -332,5 +331,4 @@ fn main() {
         );
         before = pair[0];
     }
-    println!("\n{}", boundary::told());
 }

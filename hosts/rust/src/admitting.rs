@@ -16,6 +16,7 @@ use std::ops::Range;
 /// cat[256] = 0; // no array flag
 /// assert_eq!(check_catalogue(&cat), Err(Refusal::BadCatalogue));
 /// ```
+#[inline]
 pub fn check_catalogue(cat: &[u8]) -> Result<(), Refusal> {
     // SAFETY: pointer and length are of one slice
     fine(unsafe { ffi::owl_check_catalogue(cat.as_ptr(), cat.len()) })
@@ -33,6 +34,7 @@ pub fn check_catalogue(cat: &[u8]) -> Result<(), Refusal> {
 /// trade.fields.push(Field::new("size", 3, 20, 4, dbn::U32));
 /// assert_eq!(admit(&cat, &Layout::from(trade).to_block()), Err(Refusal::SharedByte));
 /// ```
+#[inline]
 pub fn admit(cat: &[u8], layout: &[u8]) -> Result<(), Refusal> {
     // SAFETY: pointers and lengths are of one slice each
     fine(unsafe { ffi::owl_admit(cat.as_ptr(), cat.len(), layout.as_ptr(), layout.len()) })
@@ -49,6 +51,7 @@ pub fn admit(cat: &[u8], layout: &[u8]) -> Result<(), Refusal> {
 /// assert_eq!(record_size(&cat, &layout, 0), Ok(Some(24)));
 /// assert_eq!(record_size(&cat, &layout, 1), Ok(None));
 /// ```
+#[inline]
 pub fn record_size(cat: &[u8], layout: &[u8], k: usize) -> Result<Option<usize>, Refusal> {
     let mut size = 0;
     // SAFETY: pointers and lengths are of one slice each; the number is borrowed for the call
@@ -75,6 +78,7 @@ pub fn record_size(cat: &[u8], layout: &[u8], k: usize) -> Result<Option<usize>,
 /// assert_eq!(window(&record, 3, 2), None);
 /// assert_eq!(window(&record, usize::MAX, 2), None);
 /// ```
+#[inline]
 pub fn window(bytes: &[u8], offset: usize, size: usize) -> Option<Range<usize>> {
     let (mut start, mut end) = (0, 0);
     // SAFETY: pointer and length are of one slice; the numbers are borrowed for the call
@@ -102,6 +106,7 @@ pub fn window(bytes: &[u8], offset: usize, size: usize) -> Option<Range<usize>> 
 /// assert_eq!(field_of(&table, 1), Ok(None));
 /// assert_eq!(field_of(&table[1..], 0), Err(Refusal::BadShape));
 /// ```
+#[inline]
 pub fn field_of(table: &[u8], k: usize) -> Result<Option<FieldDef>, Refusal> {
     let mut field = [0; 16];
     // SAFETY: pointer and length are of one slice; the bytes are borrowed for the call

@@ -86,6 +86,7 @@ macro_rules! call {
 
 impl FieldCursor {
     /// At the start of an empty table.
+    #[inline]
     pub fn empty(holder: Holder) -> FieldCursor {
         let mut state = [0; 5];
         // SAFETY: the state is borrowed for the call
@@ -95,6 +96,7 @@ impl FieldCursor {
 
     /// An integer, a decimal or another type with a width, or an array of it. (Refusals 2, 15, 14.)
     #[allow(clippy::too_many_arguments)] // what the proved call takes
+    #[inline]
     pub fn scalar(
         &mut self,
         room: &mut Room,
@@ -109,6 +111,7 @@ impl FieldCursor {
     }
 
     /// A string of any size. (Refusals 2, 15, 14.)
+    #[inline]
     pub fn string(
         &mut self,
         room: &mut Room,
@@ -134,6 +137,7 @@ impl FieldCursor {
     /// assert_eq!(FieldDef::all_from(&table), [FieldDef { offset: 0, ..price }]);
     /// # Ok::<_, tuppenceowl::Refusal>(())
     /// ```
+    #[inline]
     pub fn like(
         &mut self,
         room: &mut Room,
@@ -163,6 +167,7 @@ impl FieldCursor {
     /// assert_eq!((cursor.count, cursor.cursor), (2, 88));
     /// # Ok::<_, tuppenceowl::Refusal>(())
     /// ```
+    #[inline]
     pub fn nested(
         &mut self,
         room: &mut Room,
@@ -175,6 +180,7 @@ impl FieldCursor {
     }
 
     /// An array of struct `k`. (Refusals 2, 15, 14.)
+    #[inline]
     pub fn nested_array(
         &mut self,
         room: &mut Room,
@@ -188,22 +194,26 @@ impl FieldCursor {
     }
 
     /// Goes to an offset that is not behind it; the gap becomes padding. (Refusal 14.)
+    #[inline]
     pub fn at(&mut self, room: &mut Room, offset: usize) -> Result<(), Refusal> {
         call!(self.owl_cursor_at(room; offset))
     }
 
     /// Aligns to 8 and notes the base; fields placed after it have the extension flag. (Refusal 14.)
+    #[inline]
     pub fn finish_base(&mut self, room: &mut Room) -> Result<(), Refusal> {
         call!(self.owl_cursor_finish_base(room;))
     }
 
     /// Notes the base if need be, aligns to 8, and brings the listed ids to the front in the list's order. The cursor is then the size. (Refusal 14.)
+    #[inline]
     pub fn finish(&mut self, room: &mut Room, ids: &[u16]) -> Result<(), Refusal> {
         call!(self.owl_cursor_finish(room; ids.as_ptr(), ids.len()))
     }
 
     // ---- the state as five numbers
 
+    #[inline]
     fn of([most, count, cursor, base, noted]: State) -> FieldCursor {
         FieldCursor {
             most,
@@ -213,6 +223,7 @@ impl FieldCursor {
         }
     }
 
+    #[inline]
     fn state(&self) -> State {
         let noted = usize::from(self.base.is_some());
         [

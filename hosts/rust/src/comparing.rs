@@ -29,6 +29,7 @@ pub enum Verdict {
 /// assert_eq!(verdict(&cat, &stream, 0, &compiled), Ok(Some(Verdict::Compiled)));
 /// assert_eq!(verdict(&cat, &stream, 1, &compiled), Ok(None));
 /// ```
+#[inline]
 pub fn verdict(
     cat: &[u8],
     stream: &[u8],
@@ -61,6 +62,7 @@ pub fn verdict(
 /// assert_eq!(verdict_of(&cat, &stream, 1, &compiled), Ok(Some(Verdict::Dynamic)));
 /// assert_eq!(verdict_of(&cat, &stream, 7, &compiled), Ok(None));
 /// ```
+#[inline]
 pub fn verdict_of(
     cat: &[u8],
     stream: &[u8],
@@ -93,6 +95,7 @@ pub fn verdict_of(
 /// assert_eq!(field_by_id(&cat, &layout, 1, 2), Ok(Some(sequence.def)));
 /// assert_eq!(field_by_id(&cat, &layout, 1, 3), Ok(None));
 /// ```
+#[inline]
 pub fn field_by_id(
     cat: &[u8],
     layout: &[u8],
@@ -126,6 +129,7 @@ pub fn field_by_id(
 /// assert_eq!(field_by_name(&cat, &layout, 1, b"sequence"), Ok(Some(sequence.def)));
 /// assert_eq!(field_by_name(&cat, &layout, 1, b"price"), Ok(None));
 /// ```
+#[inline]
 pub fn field_by_name(
     cat: &[u8],
     layout: &[u8],

@@ -279,6 +279,7 @@ pub enum Told {
     Nothing,
 }
 
+#[inline]
 pub fn told(status: u8) -> Result<Told, Refusal> {
     match status {
         0 => Ok(Told::Answer),
@@ -289,6 +290,7 @@ pub fn told(status: u8) -> Result<Told, Refusal> {
 }
 
 /// Of a call that answers or refuses.
+#[inline]
 pub fn fine(status: u8) -> Result<(), Refusal> {
     match told(status)? {
         Told::Answer => Ok(()),
@@ -297,6 +299,7 @@ pub fn fine(status: u8) -> Result<(), Refusal> {
 }
 
 /// Of a call that may also answer none; `answer` is what it left in the lent numbers or bytes.
+#[inline]
 pub fn perhaps<T>(status: u8, answer: T) -> Result<Option<T>, Refusal> {
     match told(status)? {
         Told::Answer => Ok(Some(answer)),
@@ -306,6 +309,7 @@ pub fn perhaps<T>(status: u8, answer: T) -> Result<Option<T>, Refusal> {
 }
 
 /// Of a call with two answers that may also answer none.
+#[inline]
 pub fn either<T>(status: u8, answer: T, other: T) -> Result<Option<T>, Refusal> {
     Ok(match told(status)? {
         Told::Answer => Some(answer),

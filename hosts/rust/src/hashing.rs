@@ -30,6 +30,7 @@ pub enum Booted {
 /// assert_eq!(sum(&[]), 0xC15D213AA4D7A795);
 /// assert_eq!(sum(&[0x95]), 0x00C15D213AA4D7A7);
 /// ```
+#[inline]
 pub fn sum(bytes: &[u8]) -> u64 {
     // SAFETY: pointer and length are of one slice
     unsafe { ffi::owl_sum(bytes.as_ptr(), bytes.len()) }
@@ -45,6 +46,7 @@ pub fn sum(bytes: &[u8]) -> u64 {
 /// assert_eq!(layout_hash(&cat, &layout, 0), Ok(Some(LayoutHash { hash: sum(&[]), visits: 0 })));
 /// assert_eq!(layout_hash(&cat, &layout, 1), Ok(None));
 /// ```
+#[inline]
 pub fn layout_hash(cat: &[u8], layout: &[u8], k: usize) -> Result<Option<LayoutHash>, Refusal> {
     let (mut hash, mut visits) = (0, 0);
     // SAFETY: pointers and lengths are of one slice each; the numbers are borrowed for the call
@@ -75,6 +77,7 @@ pub fn layout_hash(cat: &[u8], layout: &[u8], k: usize) -> Result<Option<LayoutH
 /// assert_eq!(layout_hash_within(&cat, &layout, 0, 0), Err(Refusal::OverBudget));
 /// # Ok::<_, Refusal>(())
 /// ```
+#[inline]
 pub fn layout_hash_within(
     cat: &[u8],
     layout: &[u8],
@@ -111,6 +114,7 @@ pub fn layout_hash_within(
 /// assert_eq!(boot_check(&cat, &layout.to_block(), 0), Ok(Some(Booted::Same)));
 /// # Ok::<_, tuppenceowl::Refusal>(())
 /// ```
+#[inline]
 pub fn boot_check(cat: &[u8], layout: &[u8], k: usize) -> Result<Option<Booted>, Refusal> {
     // SAFETY: pointers and lengths are of one slice each
     let status =

@@ -30,6 +30,7 @@ pub enum Selected {
 /// let others = Layout::from(other).to_block();
 /// assert_eq!(select(&cat, &source, 0, &others, None), Ok(Some(Selected::Unplanned)));
 /// ```
+#[inline]
 pub fn select(
     cat: &[u8],
     source: &[u8],
@@ -76,6 +77,7 @@ pub fn select(
 /// # Ok::<_, tuppenceowl::Refusal>(())
 /// ```
 #[allow(clippy::too_many_arguments)] // what the proved call takes
+#[inline]
 pub fn plan(
     cat: &[u8],
     source: &[u8],

@@ -73,6 +73,7 @@ impl Refusal {
     ];
 
     /// Its number, 1 to 16.
+    #[inline]
     pub const fn number(self) -> u8 {
         self as u8
     }
@@ -85,6 +86,7 @@ impl Refusal {
     /// assert_eq!(Refusal::of_number(16), Some(Refusal::BadPlan));
     /// assert_eq!(Refusal::of_number(17), None);
     /// ```
+    #[inline]
     pub fn of_number(number: u8) -> Option<Refusal> {
         Self::ALL.into_iter().find(|r| r.number() == number)
     }

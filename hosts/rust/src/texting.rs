@@ -12,6 +12,7 @@ use crate::{
 /// assert_eq!(check_plan(&[0; SLOT]), Ok(())); // an empty record to an empty record
 /// assert_eq!(check_plan(&[0; 5]), Err(Refusal::BadPlan));
 /// ```
+#[inline]
 pub fn check_plan(plan: &[u8]) -> Result<(), Refusal> {
     // SAFETY: pointer and length are of one slice
     fine(unsafe { ffi::owl_check_plan(plan.as_ptr(), plan.len()) })
@@ -28,6 +29,7 @@ pub fn check_plan(plan: &[u8]) -> Result<(), Refusal> {
 /// assert_eq!(write_plan(&[0; SLOT], &mut text[..n - 1]), Err(Refusal::NoRoom));
 /// # Ok::<_, Refusal>(())
 /// ```
+#[inline]
 pub fn write_plan(plan: &[u8], text: &mut [u8]) -> Result<usize, Refusal> {
     let mut length = 0;
     // SAFETY: pointers and lengths are of one slice each; text and number are borrowed for the call
@@ -53,6 +55,7 @@ pub fn write_plan(plan: &[u8], text: &mut [u8]) -> Result<usize, Refusal> {
 /// assert_eq!(slot, [0; SLOT]);
 /// assert_eq!(read_plan(b"plan\t01\t0\t0\t0\t0\t0\t0\t0\nbody\t\n", &mut slot), Err(Refusal::BadPlan));
 /// ```
+#[inline]
 pub fn read_plan(text: &[u8], plan: &mut [u8]) -> Result<(), Refusal> {
     // SAFETY: pointers and lengths are of one slice each; the slot is borrowed for the call
     fine(unsafe { ffi::owl_read_plan(text.as_ptr(), text.len(), plan.as_mut_ptr(), plan.len()) })

@@ -29,6 +29,7 @@ pub struct Upgraded {
 /// assert_eq!(apply(&slot, &[0, 0, 1, 2], 5, &mut dst), Err(Refusal::BadLength));
 /// # Ok::<_, Refusal>(())
 /// ```
+#[inline]
 pub fn apply(slot: &[u8], src: &[u8], stated: usize, dst: &mut [u8]) -> Result<Upgraded, Refusal> {
     let (mut rtype, mut size) = (0, 0);
     // SAFETY: pointers and lengths are of one slice each; target and numbers are borrowed for the call
@@ -61,6 +62,7 @@ pub fn apply(slot: &[u8], src: &[u8], stated: usize, dst: &mut [u8]) -> Result<U
 /// assert_eq!(upgrade(&[], &[1], 1, 2, 3, &[8, 8, 1, 2], 4, &mut dst), Err(Refusal::Unplanned));
 /// ```
 #[allow(clippy::too_many_arguments)] // what the proved call takes
+#[inline]
 pub fn upgrade(
     plans: &[u8],
     unplanned: &[u16],
