@@ -1,6 +1,7 @@
 //! Prints what a call of the port takes beside one of the Rust. All rows of both tables are timed in one pass.
 mod cursors;
 mod inputs;
+mod lookups;
 mod measure;
 mod port;
 mod texts;
@@ -187,57 +188,6 @@ fn order_rows(i: &Inputs) -> Vec<Row<'_>> {
     orders.map(one).into()
 }
 
-/// What reads an admitted layout: the Rust is given an index that it built before, the port admits the layout at each call.
-fn lookup_rows<'a>(
-    catalogue: &'a [u8],
-    (n, bytes, layout): &'a (u16, Vec<u8>, StreamLayout),
-) -> [Row<'a>; 2] {
-    let (record, last) = (&layout.record_layouts[0], n + 1);
-    let index = LayoutIndex::new(layout, layout);
-    let rtype = record.rtype;
-    let ours = port::field_by_id(catalogue, bytes, rtype, last);
-    assert!(
-        ours.is_some() && index.field_by_id(rtype, last).is_some(),
-        "no such field"
-    );
-    assert_eq!(
-        port::record_size(catalogue, bytes),
-        Some(record.record_size().into()),
-        "the sizes differ"
-    );
-    let size: Call = Box::new(move || {
-        black_box(port::record_size(black_box(catalogue), black_box(bytes)));
-    });
-    let rust_size: Call = Box::new(move || {
-        black_box(black_box(record).record_size());
-    });
-    let found: Call = Box::new(move || {
-        black_box(port::field_by_id(
-            black_box(catalogue),
-            black_box(bytes),
-            rtype,
-            last,
-        ));
-    });
-    let rust_found: Call = Box::new(move || {
-        black_box(black_box(&index).field_by_id(rtype, last));
-    });
-    [
-        row(
-            &format!("record size of {n} fields with admission, `record_size`"),
-            size,
-            rust_size,
-            Ends::Plain,
-        ),
-        row(
-            &format!("field by id among {n} with admission, `LayoutIndex::field_by_id`"),
-            found,
-            rust_found,
-            Ends::Plain,
-        ),
-    ]
-}
-
 fn scaling_row<'a>(catalogue: &'a [u8], (n, layout): &'a (u16, Vec<u8>)) -> Row<'a> {
     row(
         &format!("admission of {n} fields in offset order, `LayoutIndex::new`"),
@@ -270,7 +220,8 @@ fn rows(i: &Inputs) -> Vec<Row<'_>> {
     // the others differ in the same steps
     all.push(upgrades::dispatch_row(&i.upgradings[0]));
     all.extend(texts::rows(&i.written));
-    all.extend(i.hashed.iter().flat_map(|h| lookup_rows(&i.catalogue, h)));
+    all.extend(i.hashed.iter().flat_map(|h| lookups::rows(&i.catalogue, h)));
+    all.push(lookups::window_row(&i.kibibyte));
     all.extend(i.scaling.iter().map(|s| scaling_row(&i.catalogue, s)));
     all
 }

@@ -1,6 +1,6 @@
 //! The port's calls, through its Rust crate: each on the first record of a layout.
 use tuppenceowl as owl;
-use tuppenceowl::{FieldCursor, FieldDef, Holder, Refusal, Room, Verdict};
+use tuppenceowl::{Booted, FieldCursor, FieldDef, Holder, Refusal, Room, Verdict};
 
 /// 0, or the refusal's number.
 fn status<T>(answer: Result<T, Refusal>) -> u8 {
@@ -25,6 +25,23 @@ pub fn record_size(cat: &[u8], layout: &[u8]) -> Option<usize> {
 
 pub fn field_by_id(cat: &[u8], layout: &[u8], rtype: u16, id: u16) -> Option<FieldDef> {
     owl::field_by_id(cat, layout, rtype, id).unwrap_or(None)
+}
+
+pub fn field_by_name(cat: &[u8], layout: &[u8], rtype: u16, name: &str) -> Option<FieldDef> {
+    owl::field_by_name(cat, layout, rtype, name.as_bytes()).unwrap_or(None)
+}
+
+/// The layout against itself.
+pub fn is_compiled_of(cat: &[u8], layout: &[u8], rtype: u16) -> bool {
+    owl::verdict_of(cat, layout, rtype, layout) == Ok(Some(Verdict::Compiled))
+}
+
+pub fn boot_check(cat: &[u8], layout: &[u8]) -> bool {
+    owl::boot_check(cat, layout, 0) == Ok(Some(Booted::Same))
+}
+
+pub fn window(bytes: &[u8], offset: usize, size: usize) -> bool {
+    owl::window(bytes, offset, size).is_some()
 }
 
 pub fn layout_hash(cat: &[u8], layout: &[u8]) -> Option<u64> {
