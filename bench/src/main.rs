@@ -124,12 +124,12 @@ fn rust_sum(bytes: &[u8]) -> Call<'_> {
 
 // ---- rows: an entry for each
 
-/// How the row ends: nothing more, how much of the Rust's time the port may take, the same of what it takes beyond the row before, or how
-/// many fields share its time.
+/// How the row ends: nothing more, how much of the other's time the port may take, the same of what it takes beyond the row before (and whose
+/// time that is), or how many fields share its time.
 enum Ends {
     Plain,
     Most(f64),
-    Beyond(f64),
+    Beyond(f64, &'static str),
     Fields(u16),
 }
 
@@ -219,6 +219,7 @@ fn rows(i: &Inputs) -> Vec<Row<'_>> {
     all.extend(i.upgradings.iter().map(upgrades::apply_row));
     // the others differ in the same steps
     all.push(upgrades::dispatch_row(&i.upgradings[0]));
+    all.extend(upgrades::boundary_rows(&i.upgradings[0]));
     all.extend(texts::rows(&i.written));
     all.extend(i.hashed.iter().flat_map(|h| lookups::rows(&i.catalogue, h)));
     all.push(lookups::window_row(&i.kibibyte));
@@ -242,8 +243,8 @@ fn remark(ends: &Ends, before: f64, ours: f64, theirs: f64) -> String {
     match *ends {
         Ends::Plain => String::new(),
         Ends::Most(most) => met(most, ours, theirs),
-        Ends::Beyond(most) => format!(
-            "{:.0} ns beyond the row above, {:.2} of the Rust; {}",
+        Ends::Beyond(most, whose) => format!(
+            "{:.1} ns beyond the row above, {:.2} of {whose}; {}",
             ours - before,
             (ours - before) / theirs,
             met(most, ours - before, theirs)

@@ -11,6 +11,9 @@ use std::hint::black_box;
 const HEADER: usize = slot::HEADER;
 const SOURCE_HEADER: usize = slot::SOURCE_HEADER;
 const RTYPE: u8 = 1;
+/// One byte longer than a header may be, and the refusal for it.
+const LONG_HEADER: usize = 65;
+const BAD_HEADER: u8 = 7;
 
 // ---- the planner
 
@@ -190,36 +193,64 @@ pub fn apply_row(u: &Upgrading) -> Row<'_> {
     )
 }
 
+/// The port's dispatch, which answers so.
+fn dispatched(u: &Upgrading, headers: (usize, usize), status: u8) -> Call<'_> {
+    let mut into = vec![0xAA; u.plan.record_size()];
+    let mut turn = move || {
+        let answer = port::upgrade(
+            black_box(&u.slot),
+            RTYPE.into(),
+            headers,
+            black_box(&u.record),
+            &mut into,
+        );
+        black_box(&into);
+        answer
+    };
+    assert_eq!(turn(), status, "the port answers otherwise");
+    Box::new(move || {
+        black_box(turn());
+    })
+}
+
 /// The Rust writes the target's header too.
 pub fn dispatch_row(u: &Upgrading) -> Row<'_> {
     let n = u.plan.record_size();
     let (mut ours, mut theirs) = (vec![0xAA; n], vec![0xAA; n]);
     let headers = (SOURCE_HEADER, HEADER);
-    assert_eq!(
-        port::upgrade(&u.slot, RTYPE.into(), headers, &u.record, &mut ours),
-        0,
-        "the port refuses the record"
-    );
+    port::upgrade(&u.slot, RTYPE.into(), headers, &u.record, &mut ours);
     assert_eq!(u.dispatch.upgrade(&u.record, &mut theirs).unwrap(), Some(n));
     assert!(ours[HEADER..] == theirs[HEADER..], "the records differ");
-    let ours: Call = Box::new(move || {
-        black_box(port::upgrade(
-            black_box(&u.slot),
-            RTYPE.into(),
-            headers,
-            black_box(&u.record),
-            &mut ours,
-        ));
-        black_box(&ours);
-    });
     let theirs: Call = Box::new(move || {
         let _ = black_box(u.dispatch.upgrade(black_box(&u.record), &mut theirs));
         black_box(&theirs);
     });
     row(
         &format!("dispatch of {}, `Upgrader::upgrade`", u.what),
-        ours,
+        dispatched(u, headers, 0),
         theirs,
         Ends::Most(u.most),
     )
+}
+
+/// What the C boundary adds to the port's own dispatch: a call that the first test refuses, beyond a turn that calls nothing.
+pub fn boundary_rows(u: &Upgrading) -> [Row<'_>; 2] {
+    let whole = || dispatched(u, (SOURCE_HEADER, HEADER), 0);
+    let nothing: Call = Box::new(move || {
+        black_box((black_box(&u.slot), black_box(&u.record)));
+    });
+    [
+        row(
+            "a turn that calls nothing, the port's dispatch",
+            nothing,
+            whole(),
+            Ends::Plain,
+        ),
+        row(
+            "a dispatch refused by its first test, the port's dispatch",
+            dispatched(u, (LONG_HEADER, HEADER), BAD_HEADER),
+            whole(),
+            Ends::Beyond(0.1, "the dispatch"),
+        ),
+    ]
 }

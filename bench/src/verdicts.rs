@@ -85,7 +85,7 @@ pub fn rows<'a>(catalogue: &'a [u8], p: &'a Pair) -> [Row<'a>; 2] {
             &format!("verdict with admission: {}, `verdict`", p.what),
             ours(catalogue, p.stream.clone(), &p.compiled),
             theirs(&p.theirs),
-            Ends::Beyond(1.0),
+            Ends::Beyond(1.0, "the Rust"),
         ),
     ]
 }

@@ -1,1 +1,2 @@
 pub mod When
+mod Tidy

@@ -3,7 +3,9 @@ ghost use mathlib.Core.Path.{_≡_};
 ghost use Rattle.lent.specs.Scan.{every};
 ghost use Rattle.layout.specs.Layout.{heads};
 ghost use Rattle.layout.specs.Shape.{shapeOk};
-ghost use Rattle.admission.specs.Admission.{headOk, layoutOk, given, admitTables, admitAll, admitOf, admitBoth};
+ghost use Rattle.field.specs.Field.{fieldsOf};
+ghost use Rattle.admission.specs.Admission.{given, admitTables, admitAll, admitOf, admitBoth};
+ghost use Rattle.admission.specs.Parts.{testOk, headPasses, layoutPasses};
 use layout::block;
 use layout::block::Holder;
 use layout::shape;
@@ -15,15 +17,30 @@ pub enum Admitted {
     Refused(Refusal),
 }
 
-fn tables_ok(rule: Rule, holder: Holder, cat: &[u8], l: &[u8]) -> bool
-    ensures { λ r. ⌜ r ≡ every (headOk rule holder (now (cat .entry)) (now (l .entry))) (heads holder (now (l .entry))) ⌝ }
+// What is asked of each table: one rule, or all of them in one pass.
+enum Test {
+    Each(Rule),
+    Tidy,
+}
+
+fn table_passes(test: Test, cat: &[u8], most: usize, t: &[u8]) -> bool
+    ensures { λ r. ⌜ r ≡ testOk test (now (cat .entry)) most (fieldsOf (now (t .entry))) ⌝ }
+{
+    match test {
+        Test::Each(rule) => table::table_ok(rule, cat, most, t),
+        Test::Tidy => table::tidy_ok(cat, most, t),
+    }
+}
+
+fn tables_ok(test: Test, holder: Holder, cat: &[u8], l: &[u8]) -> bool
+    ensures { λ r. ⌜ r ≡ every (headPasses test holder (now (cat .entry)) (now (l .entry))) (heads holder (now (l .entry))) ⌝ }
 {
     let step = block::head_size(holder);
     let mut at = block::heads_from(holder, l);
     let mut left = block::count_of(holder, l);
     while left != 0 {
         let most = block::limit_at(holder, l, at);
-        if !table::table_ok(rule, cat, most, block::table_at(holder, l, at)) {
+        if !table_passes(test, cat, most, block::table_at(holder, l, at)) {
             return false;
         }
         at += step;
@@ -32,20 +49,20 @@ fn tables_ok(rule: Rule, holder: Holder, cat: &[u8], l: &[u8]) -> bool
     true
 }
 
-fn layout_ok(rule: Rule, cat: &[u8], l: &[u8]) -> bool
-    ensures { λ r. ⌜ r ≡ layoutOk rule (now (cat .entry)) (now (l .entry)) ⌝ }
+fn layout_ok(test: Test, cat: &[u8], l: &[u8]) -> bool
+    ensures { λ r. ⌜ r ≡ layoutPasses test (now (cat .entry)) (now (l .entry)) ⌝ }
 {
-    tables_ok(rule, Holder::Record, cat, l) & tables_ok(rule, Holder::Struct, cat, l)
+    tables_ok(test, Holder::Record, cat, l) & tables_ok(test, Holder::Struct, cat, l)
 }
 
 // Of both layouts, or of the first alone.
-fn layouts_ok(rule: Rule, cat: &[u8], both: bool, a: &[u8], b: &[u8]) -> bool
-    ensures { λ r. ⌜ r ≡ every (layoutOk rule (now (cat .entry))) (given both (now (a .entry)) (now (b .entry))) ⌝ }
+fn layouts_ok(test: Test, cat: &[u8], both: bool, a: &[u8], b: &[u8]) -> bool
+    ensures { λ r. ⌜ r ≡ every (layoutPasses test (now (cat .entry))) (given both (now (a .entry)) (now (b .entry))) ⌝ }
 {
     if both {
-        return layout_ok(rule, cat, a) & layout_ok(rule, cat, b);
+        return layout_ok(test, cat, a) & layout_ok(test, cat, b);
     }
-    layout_ok(rule, cat, a)
+    layout_ok(test, cat, a)
 }
 
 fn shapes_ok(both: bool, a: &[u8], b: &[u8]) -> bool
@@ -57,22 +74,33 @@ fn shapes_ok(both: bool, a: &[u8], b: &[u8]) -> bool
     shape::shape_ok(a)
 }
 
-fn admit_tables(cat: &[u8], both: bool, a: &[u8], b: &[u8]) -> Admitted
+// Rule by rule, each on all before the next.
+fn admit_each(cat: &[u8], both: bool, a: &[u8], b: &[u8]) -> Admitted
     ensures { λ r. ⌜ r ≡ admitTables (now (cat .entry)) (given both (now (a .entry)) (now (b .entry))) ⌝ }
 {
-    if !layouts_ok(Rule::Reserved, cat, both, a, b) {
+    if !layouts_ok(Test::Each(Rule::Reserved), cat, both, a, b) {
         return Admitted::Refused(Refusal::ReservedByte);
     }
-    if !layouts_ok(Rule::Bounds, cat, both, a, b) {
+    if !layouts_ok(Test::Each(Rule::Bounds), cat, both, a, b) {
         return Admitted::Refused(Refusal::OutOfBounds);
     }
-    if !layouts_ok(Rule::Apart, cat, both, a, b) {
+    if !layouts_ok(Test::Each(Rule::Apart), cat, both, a, b) {
         return Admitted::Refused(Refusal::SharedByte);
     }
-    if !layouts_ok(Rule::Width, cat, both, a, b) {
+    if !layouts_ok(Test::Each(Rule::Width), cat, both, a, b) {
         return Admitted::Refused(Refusal::WrongWidth);
     }
     Admitted::Fine
+}
+
+// One pass settles what is in offset order and keeps all; only else does the first refusal have to be found.
+fn admit_tables(cat: &[u8], both: bool, a: &[u8], b: &[u8]) -> Admitted
+    ensures { λ r. ⌜ r ≡ admitTables (now (cat .entry)) (given both (now (a .entry)) (now (b .entry))) ⌝ }
+{
+    if layouts_ok(Test::Tidy, cat, both, a, b) {
+        return Admitted::Fine;
+    }
+    admit_each(cat, both, a, b)
 }
 
 fn admit_given(cat: &[u8], both: bool, a: &[u8], b: &[u8]) -> Admitted

@@ -8,7 +8,7 @@ ghost use Rattle.catalogue.specs.Catalogue.{isWidth};
 ghost use Rattle.step.specs.declared.Op.the-variants.{Int};
 ghost use Rattle.slot.specs.Slot.{headerIn, sizeIn, planIn, slotOk};
 ghost use Rattle.interpreter.specs.Run.{carried, reaches, fits, runStep, run, upgraded, coveredTo, bodyAfter};
-use slot::check::number_at;
+use slot::check::number_in;
 use step::Op;
 use step::Step;
 
@@ -80,8 +80,8 @@ fn covered_to(slot: &[u8], src: &[u8]) -> usize
     requires { ⌜ slotOk (now slot) ≡ true ⌝ }
     ensures { λ r. ⌜ r ≡ coveredTo (now (src .entry)) (headerIn (now (slot .entry))) (planIn (now (slot .entry)) .steps) ⌝ }
 {
-    let header = number_at(slot, 6);
-    if number_at(slot, 12) == 0 {
+    let header = number_in(slot, 6);
+    if number_in(slot, 12) == 0 {
         return header;
     }
     let step = step::packed::step_in(slot, slot::STEPS_FROM);
@@ -96,8 +96,8 @@ pub fn lay_body(slot: &[u8], from: usize, dst: &mut [u8])
     requires { ⌜ (slotOk (now slot) ≡ true) × (headerIn (now slot) ≤ from) × (from ≤ sizeIn (now slot)) × (sizeIn (now slot) ≤ length (now dst)) ⌝ }
     ensures { λ r. ⌜ now (dst .exit) ≡ sets (now (dst .entry)) from (bodyAfter (now (slot .entry)) from) ⌝ }
 {
-    let header = number_at(slot, 6);
-    let n = number_at(slot, 10) - from;
+    let header = number_in(slot, 6);
+    let n = number_in(slot, 10) - from;
     lent::store::copy(slot, slot::BODY_FROM + (from - header), dst, from, n);
 }
 
@@ -107,7 +107,7 @@ pub fn run_steps(slot: &[u8], src: &[u8], dst: &mut [u8])
     ensures { λ r. ⌜ now (dst .exit) ≡ run (now (src .entry)) (planIn (now (slot .entry)) .steps) (now (dst .entry)) ⌝ }
 {
     let mut at = slot::STEPS_FROM;
-    let mut left = number_at(slot, 12);
+    let mut left = number_in(slot, 12);
     while 0 < left {
         let step = step::packed::step_in(slot, at);
         run_step(step, src, dst);

@@ -39,7 +39,8 @@ fn word(s: &[u8], from: usize, d: &mut [u8], to: usize)
     words::store_eight(d, to, v as u64);
 }
 
-// n bytes of s from `from` on, stored from `to` on. The last word may lie over the one before: no bytes are left for a loop of their own.
+// n bytes of s from `from` on, stored from `to` on: the first word, those between, the last, which may lie over the one before. So no bytes are
+// left for a loop of their own, and up to 16 take none.
 pub fn copy(s: &[u8], from: usize, d: &mut [u8], to: usize, n: usize)
     requires { ⌜ (from + n ≤ length (now s)) × (to + n ≤ length (now d)) ⌝ }
     ensures { λ r. ⌜ now (d .exit) ≡ sets (now (d .entry)) to (window (now (s .entry)) from n) ⌝ }
@@ -49,7 +50,8 @@ pub fn copy(s: &[u8], from: usize, d: &mut [u8], to: usize, n: usize)
         return;
     }
     let last = n - 8;
-    let mut i = 0;
+    word(s, from, d, to);
+    let mut i = 8;
     while i < last {
         word(s, from + i, d, to + i);
         i += 8;

@@ -17,7 +17,8 @@ pub fn number_at(slot: &[u8], at: usize) -> usize
     lent::wide16(lent::u16_at(slot, at))
 }
 
-fn number_in(slot: &[u8], at: usize) -> usize
+// Of one that reaches so far.
+pub fn number_in(slot: &[u8], at: usize) -> usize
     requires { ⌜ at + 2 ≤ length (now slot) ⌝ }
     ensures { λ r. ⌜ (r ≡ numberAt (now (slot .entry)) at 2) × (r < 65536) ⌝ }
 {

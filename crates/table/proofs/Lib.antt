@@ -1,3 +1,4 @@
 pub mod Bytes
 pub mod Chained
 pub mod Pairs
+pub mod Tidy

@@ -6,7 +6,7 @@ ghost use lib.ListN.{length, take};
 ghost use Rattle.lent.specs.Scan.{gather, every};
 ghost use Rattle.field.specs.Field.{fieldAt, fieldsOf};
 ghost use Rattle.table.specs.Table.{reservedZero, shareByte, clearOf, apart, widthOk, tableOk};
-ghost use Rattle.table.specs.Parts.{fieldOk, chain};
+ghost use Rattle.table.specs.Parts.{fieldOk, chain, alone, tidy};
 use field::FieldDef;
 
 // What is tested of a table, in the order of the refusals.
@@ -150,4 +150,32 @@ pub fn table_ok(rule: Rule, cat: &[u8], most: usize, t: &[u8]) -> bool
         Rule::Apart => apart_ok(t),
         Rule::Width => fields_ok(rule, cat, most, t),
     }
+}
+
+// ---- every rule in one pass: enough for fields that follow each other as they stand
+
+fn alone_ok(cat: &[u8], most: usize, f: FieldDef) -> bool
+    ensures { λ r. ⌜ r ≡ alone (now (cat .entry)) most f ⌝ }
+{
+    field_ok(Rule::Reserved, cat, most, f)
+        & (field_ok(Rule::Bounds, cat, most, f) & field_ok(Rule::Width, cat, most, f))
+}
+
+pub fn tidy_ok(cat: &[u8], most: usize, t: &[u8]) -> bool
+    ensures { λ r. ⌜ r ≡ tidy (now (cat .entry)) most 0 (fieldsOf (now (t .entry))) ⌝ }
+{
+    let mut low = 0;
+    let mut at = 0;
+    let mut left = t.len() / field::SIZE;
+    while left != 0 {
+        let f = field::field_in(t, at);
+        let good = (low <= lent::wide16(f.offset)) & alone_ok(cat, most, f);
+        if !good {
+            return false;
+        }
+        low = field::end_of(f);
+        at += field::SIZE;
+        left -= 1;
+    }
+    true
 }

@@ -1,5 +1,4 @@
 use borrow.Author.Needs.{needs}
-use Rattle.admission.specs.Admission.{layoutOk}
 use Rattle.admission.proofs.layout_ok.Statement.{statement}
 use Rattle.admission.proofs.layout_ok.Tie as tie
 
@@ -10,7 +9,6 @@ tables-ok-requires-2 : tie.Need-tables-ok-requires-2
 tables-ok-requires-2 c κs = search needs
 
 returns : tie.Need-returns
-unfolding layoutOk
 returns c = rw (c .before .tables-ok .ensures, c .tables-ok2 .ensures)
 
 pub layout-ok-spec : {M : Type 1} → statement M

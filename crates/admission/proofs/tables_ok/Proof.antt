@@ -4,7 +4,7 @@ use Prim.Native.Nat.{ℕ, _+_, _*_, _<_}
 use native.Mathlib.Omega.{arith}
 use borrow.Author.Tests.{not-true, not-false}
 use borrow.Author.Needs.{needs}
-use Rattle.admission.specs.Admission.{headOk}
+use Rattle.admission.specs.Parts.{headPasses}
 use Rattle.lent.specs.Scan.{every, places}
 use Rattle.lent.proofs.Scan.{stops, goes, ends}
 use Rattle.layout.specs.Layout.{heads}
@@ -12,12 +12,12 @@ use Rattle.admission.proofs.tables_ok.Statement.{statement}
 use Rattle.admission.proofs.tables_ok.Tie as tie
 
 abbrev Inv-loop : tie.InvT-loop
-Inv-loop rule holder cat l step at₀ left₀ at left =
+Inv-loop test holder cat l step at₀ left₀ at left =
     (at + 72 * left < 10000000)
-    × (every (headOk rule holder cat l) (places step at left) ≡ every (headOk rule holder cat l) (heads holder l))
+    × (every (headPasses test holder cat l) (places step at left) ≡ every (headPasses test holder cat l) (heads holder l))
 
 abbrev μ-loop : tie.MeasureT-loop
-μ-loop rule holder cat l step at₀ left₀ at left = left
+μ-loop test holder cat l step at₀ left₀ at left = left
 
 head-size-requires : tie.Need-head-size-requires Inv-loop μ-loop
 head-size-requires c κs = search needs
@@ -37,15 +37,15 @@ limit-at-requires c κs = omega arith
 table-at-requires : tie.Need-table-at-requires Inv-loop μ-loop
 table-at-requires c κs = omega arith
 
-table-ok-requires : tie.Need-table-ok-requires Inv-loop μ-loop
-table-ok-requires c κs = search needs
+table-passes-requires : tie.Need-table-passes-requires Inv-loop μ-loop
+table-passes-requires c κs = search needs
 
 returns : tie.Need-returns Inv-loop μ-loop
 returns c =
     let a = c .before .before .before .before .before .before .before .before .before .before .before .args in
     let l = c .before .before .before .before .before .loop in
-    stops (λ (p : ℕ). p) (c .before .before .before .before .before .before .before .before .head-size .result) (l .at) (l .left) (headOk (a .rule) (a .holder) (a .cat .now) (a .l .now)) _ (l .inv .1) (omega arith)
-    (rw (← c .before .before .table-at .ensures, ← c .before .before .before .limit-at .ensures) (sym (c .before .table-ok .ensures) ∙ not-true _ (c .if1 .taken)))
+    stops (λ (p : ℕ). p) (c .before .before .before .before .before .before .before .before .head-size .result) (l .at) (l .left) (headPasses (a .test) (a .holder) (a .cat .now) (a .l .now)) _ (l .inv .1) (omega arith)
+    (rw (← c .before .before .table-at .ensures, ← c .before .before .before .limit-at .ensures) (sym (c .before .table-passes .ensures) ∙ not-true _ (c .if1 .taken)))
 
 add-at : tie.Need-add-at Inv-loop μ-loop
 add-at c = omega arith
@@ -61,15 +61,15 @@ loop-again c =
     let a = c .before .before .before .before .before .before .before .before .before .before .before .args in
     let l = c .before .before .before .before .before .loop in (
       omega arith,
-      goes (λ (p : ℕ). p) (c .before .before .before .before .before .before .before .before .head-size .result) (l .at) (l .left) (headOk (a .rule) (a .holder) (a .cat .now) (a .l .now)) _ (l .inv .1) (omega arith)
-          (rw (← c .before .before .table-at .ensures, ← c .before .before .before .limit-at .ensures) (sym (c .before .table-ok .ensures) ∙ not-false _ (c .if1 .left))),
+      goes (λ (p : ℕ). p) (c .before .before .before .before .before .before .before .before .head-size .result) (l .at) (l .left) (headPasses (a .test) (a .holder) (a .cat .now) (a .l .now)) _ (l .inv .1) (omega arith)
+          (rw (← c .before .before .table-at .ensures, ← c .before .before .before .limit-at .ensures) (sym (c .before .table-passes .ensures) ∙ not-false _ (c .if1 .left))),
     )
 
 returns-2 : tie.Need-returns-2 Inv-loop μ-loop
 returns-2 c =
     let a = c .before .before .before .before .before .before .before .args in
     let l = c .before .loop in
-    ends (λ (p : ℕ). p) (c .before .before .before .before .head-size .result) (l .at) (l .left) (headOk (a .rule) (a .holder) (a .cat .now) (a .l .now)) _ (l .inv .1) (omega arith)
+    ends (λ (p : ℕ). p) (c .before .before .before .before .head-size .result) (l .at) (l .left) (headPasses (a .test) (a .holder) (a .cat .now) (a .l .now)) _ (l .inv .1) (omega arith)
 
 pub tables-ok-spec : {M : Type 1} → statement M
 tables-ok-spec =
@@ -83,7 +83,7 @@ tables-ok-spec =
     loop-holds
     limit-at-requires
     table-at-requires
-    table-ok-requires
+    table-passes-requires
     returns
     add-at
     sub-left

@@ -10,15 +10,15 @@ use native.Mathlib.Omega.{arith}
 use Rattle.interpreter.proofs.covered_to.Statement.{statement}
 use Rattle.interpreter.proofs.covered_to.Tie as tie
 
-number-at-requires : tie.Need-number-at-requires
-number-at-requires c κs = search needs
+number-in-requires : tie.Need-number-in-requires
+number-in-requires c κs = let k = kept (c .before .before .args .slot .now) (c .before .before .pre) in omega (arith, k .whole)
 
-number-at-requires-2 : tie.Need-number-at-requires-2
-number-at-requires-2 c κs = search needs
+number-in-requires-2 : tie.Need-number-in-requires-2
+number-in-requires-2 c κs = let k = kept (c .before .before .before .args .slot .now) (c .before .before .before .pre) in omega (arith, k .whole)
 
 returns : tie.Need-returns
 returns c =
-    let e : countIn (c .before .before .before .before .before .args .slot .now) ≡ 0 = sym (c .before .number-at2 .ensures .0) ∙ c .if1 .taken in rw (none (stepAt (c .before .before .before .before .before .args .slot .now)) 16 stepsFrom (countIn (c .before .before .before .before .before .args .slot .now)) e) (c .before .before .number-at .ensures .0)
+    let e : countIn (c .before .before .before .before .before .args .slot .now) ≡ 0 = sym (c .before .number-in2 .ensures .0) ∙ c .if1 .taken in rw (none (stepAt (c .before .before .before .before .before .args .slot .now)) 16 stepsFrom (countIn (c .before .before .before .before .before .args .slot .now)) e) (c .before .before .number-in .ensures .0)
 
 step-in-requires : tie.Need-step-in-requires
 step-in-requires c κs =
@@ -36,21 +36,21 @@ end-of-requires c κs = search needs
 returns-2 : tie.Need-returns-2
 returns-2 c =
     let s = c .before .before .before .before .before .before .before .before .before .before .args .slot .now in
-    c .end-of .ensures .0 ∙ covers s (c .before .before .before .before .before .before .before .before .before .before .args .src .now) (headerIn s) stepsFrom (countIn s) (c .before .before .before .before .step-in .result) (omega (arith, c .before .before .before .before .before .if1 .left, c .before .before .before .before .before .before .number-at2 .ensures .0)) (c .before .before .before .before .step-in .ensures)
-    (rw (← c .before .before .before .target-of .ensures .0, ← c .before .before .before .before .before .before .before .number-at .ensures .0, ← c .before .before .reaches .ensures) (c .before .if2 .taken))
+    c .end-of .ensures .0 ∙ covers s (c .before .before .before .before .before .before .before .before .before .before .args .src .now) (headerIn s) stepsFrom (countIn s) (c .before .before .before .before .step-in .result) (omega (arith, c .before .before .before .before .before .if1 .left, c .before .before .before .before .before .before .number-in2 .ensures .0)) (c .before .before .before .before .step-in .ensures)
+    (rw (← c .before .before .before .target-of .ensures .0, ← c .before .before .before .before .before .before .before .number-in .ensures .0, ← c .before .before .reaches .ensures) (c .before .if2 .taken))
 
 returns-3 : tie.Need-returns-3
 returns-3 c =
     let s = c .before .before .before .before .before .before .before .before .before .args .slot .now in
-    c .before .before .before .before .before .before .number-at .ensures .0 ∙ covers-not s (c .before .before .before .before .before .before .before .before .before .args .src .now) (headerIn s) stepsFrom (countIn s) (c .before .before .before .step-in .result) (omega (arith, c .before .before .before .before .if1 .left, c .before .before .before .before .before .number-at2 .ensures .0)) (c .before .before .before .step-in .ensures)
-    (rw (← c .before .before .target-of .ensures .0, ← c .before .before .before .before .before .before .number-at .ensures .0, ← c .before .reaches .ensures) (c .if2 .left))
+    c .before .before .before .before .before .before .number-in .ensures .0 ∙ covers-not s (c .before .before .before .before .before .before .before .before .before .args .src .now) (headerIn s) stepsFrom (countIn s) (c .before .before .before .step-in .result) (omega (arith, c .before .before .before .before .if1 .left, c .before .before .before .before .before .number-in2 .ensures .0)) (c .before .before .before .step-in .ensures)
+    (rw (← c .before .before .target-of .ensures .0, ← c .before .before .before .before .before .before .number-in .ensures .0, ← c .before .reaches .ensures) (c .if2 .left))
 
 pub covered-to-spec : {M : Type 1} → statement M
 covered-to-spec =
     tie.close
     (tie.spec
-    number-at-requires
-    number-at-requires-2
+    number-in-requires
+    number-in-requires-2
     returns
     step-in-requires
     target-of-requires

@@ -23,13 +23,13 @@ Inv-loop slot src dst₀ at₀ left₀ dst at left =
 abbrev μ-loop : tie.MeasureT-loop
 μ-loop slot src dst₀ at₀ left₀ dst at left = left
 
-number-at-requires : tie.Need-number-at-requires Inv-loop μ-loop
-number-at-requires c κs = search needs
+number-in-requires : tie.Need-number-in-requires Inv-loop μ-loop
+number-in-requires c κs = let k = kept (c .before .before .before .args .slot .now) (c .before .before .before .pre .0) in omega (arith, k .whole)
 
 loop-holds : tie.Need-loop-holds Inv-loop μ-loop
 loop-holds c =
     let k = kept (c .before .before .before .before .args .slot .now) (c .before .before .before .before .pre .0) in
-    rw (c .number-at .ensures .0) (omega (arith, k .whole, k .count), refl, all-fit _ _ _ _ (c .before .before .before .before .pre .1) (k .steps), refl)
+    rw (c .number-in .ensures .0) (omega (arith, k .whole, k .count), refl, all-fit _ _ _ _ (c .before .before .before .before .pre .1) (k .steps), refl)
 
 step-in-requires : tie.Need-step-in-requires Inv-loop μ-loop
 step-in-requires c κs = omega arith
@@ -69,7 +69,7 @@ run-steps-spec =
     (tie.spec
     Inv-loop
     μ-loop
-    number-at-requires
+    number-in-requires
     loop-holds
     step-in-requires
     run-step-requires

@@ -1,4 +1,4 @@
--- What is left to store gives what the whole does.
+-- What is left to store gives what is left after the first word.
 use Prim.Native.Nat.{_+_, _-_, _≤_}
 use Rattle.lent.proofs.Stored.{copied, copied-last}
 use Rattle.lent.specs.Bytes.{window}
@@ -13,7 +13,7 @@ use Rattle.lent.proofs.store.copy.Tie as tie
 
 abbrev Inv-loop : tie.InvT-loop
 Inv-loop s from d₀ to n last i₀ d i =
-    (i ≤ n) × (length d ≡ length d₀) × (sets d (to + i) (window s (from + i) (n - i)) ≡ sets d₀ to (window s from n))
+    (i ≤ n) × (length d ≡ length d₀) × (sets d (to + i) (window s (from + i) (n - i)) ≡ sets d₀ (to + 8) (window s (from + 8) (n - 8)))
 
 abbrev μ-loop : tie.MeasureT-loop
 μ-loop s from d₀ to n last i₀ d i = n - i
@@ -27,8 +27,11 @@ same-length c = omega arith
 returns : tie.Need-returns Inv-loop μ-loop
 returns c = c .before .before .few .ensures
 
+word-requires : tie.Need-word-requires Inv-loop μ-loop
+word-requires c κs = omega arith
+
 loop-holds : tie.Need-loop-holds Inv-loop μ-loop
-loop-holds c = (omega arith, refl, simp (add-zero, sub-zero))
+loop-holds c = (omega arith, refl, refl)
 
 add-word : tie.Need-add-word Inv-loop μ-loop
 add-word c = omega arith
@@ -36,8 +39,8 @@ add-word c = omega arith
 add-word-2 : tie.Need-add-word-2 Inv-loop μ-loop
 add-word-2 c = omega arith
 
-word-requires : tie.Need-word-requires Inv-loop μ-loop
-word-requires c κs = omega arith
+word-requires-2 : tie.Need-word-requires-2 Inv-loop μ-loop
+word-requires-2 c κs = omega arith
 
 add-i : tie.Need-add-i Inv-loop μ-loop
 add-i c = omega arith
@@ -47,7 +50,12 @@ loop-less c = omega arith
 
 loop-again : tie.Need-loop-again Inv-loop μ-loop
 loop-again c =
-    (omega arith, c .before .before .word .kept .1 .1 .0 ∙ c .before .before .before .before .before .loop .inv .1, rw (c .before .before .word .ensures) (copied (c .before .before .before .before .before .before .before .before .before .args .s .now) (c .before .before .before .before .before .loop .d) (c .before .before .before .before .before .before .before .before .before .args .from) (c .before .before .before .before .before .before .before .before .before .args .to) (c .before .before .before .before .before .before .before .before .before .args .n) (c .before .before .before .before .before .loop .i) 8 (omega arith) (omega arith)) ∙ c .before .before .before .before .before .loop .inv .2)
+    let a = c .before .before .before .before .before .before .before .before .before .before .before .before .before .args in
+    let l = c .before .before .before .before .before .loop in (
+      omega arith,
+      c .before .before .word2 .kept .1 .1 .0 ∙ l .inv .1,
+      rw (c .before .before .word2 .ensures) (copied (a .s .now) (l .d) (a .from) (a .to) (a .n) (l .i) 8 (omega arith) (omega arith)) ∙ l .inv .2,
+    )
 
 add-word-3 : tie.Need-add-word-3 Inv-loop μ-loop
 add-word-3 c = omega arith
@@ -55,15 +63,20 @@ add-word-3 c = omega arith
 add-word-4 : tie.Need-add-word-4 Inv-loop μ-loop
 add-word-4 c = omega arith
 
-word-requires-2 : tie.Need-word-requires-2 Inv-loop μ-loop
-word-requires-2 c κs = omega arith
+word-requires-3 : tie.Need-word-requires-3 Inv-loop μ-loop
+word-requires-3 c κs = omega arith
 
 same-length-2 : tie.Need-same-length-2 Inv-loop μ-loop
 same-length-2 c = omega arith
 
 returns-2 : tie.Need-returns-2 Inv-loop μ-loop
 returns-2 c =
-    c .before .before .word2 .ensures ∙ copied-last (c .before .before .before .before .before .before .before .before .before .args .s .now) (c .before .before .before .before .before .loop .d) (c .before .before .before .before .before .before .before .before .before .args .d .now) (c .before .before .before .before .before .before .before .before .before .args .from) (c .before .before .before .before .before .before .before .before .before .args .to) (c .before .before .before .before .before .before .before .before .before .args .n) (c .before .before .before .before .before .loop .i) 8 (omega arith) (omega arith) (omega arith) (omega arith) (c .before .before .before .before .before .loop .inv .2)
+    let a = c .before .before .before .before .before .before .before .before .before .before .before .before .before .args in
+    let l = c .before .before .before .before .before .loop in
+    let first = rw (add-zero (a .from), add-zero (a .to), sub-zero (a .n)) at (copied (a .s .now) (a .d .now) (a .from) (a .to) (a .n) 0 8 (omega arith) (omega arith)) in
+    let left : sets (l .d) (a .to + l .i) (window (a .s .now) (a .from + l .i) (a .n - l .i)) ≡ sets (a .d .now) (a .to) (window (a .s .now) (a .from) (a .n)) =
+    l .inv .2 ∙ rw (c .before .before .before .before .before .before .before .before .word .ensures) first in
+    c .before .before .word3 .ensures ∙ copied-last (a .s .now) (l .d) (a .d .now) (a .from) (a .to) (a .n) (l .i) 8 (omega arith) (omega arith) (omega arith) (omega arith) left
 
 pub copy-spec : {M : Type 1} → statement M
 copy-spec =
@@ -74,15 +87,16 @@ copy-spec =
     few-requires
     same-length
     returns
+    word-requires
     loop-holds
     add-word
     add-word-2
-    word-requires
+    word-requires-2
     add-i
     loop-less
     loop-again
     add-word-3
     add-word-4
-    word-requires-2
+    word-requires-3
     same-length-2
     returns-2)
