@@ -1,6 +1,7 @@
 // The catalogue of type ids: 262 lent bytes (docs/FORMATS.md).
 ghost use mathlib.Core.Path.{_≡_};
-ghost use Prim.Native.Nat.{_+_, _*_, _<_, _≤_};
+ghost use mathlib.Core.Bool.{cond};
+ghost use Prim.Native.Nat.{_+_, _*_, _/_, _<_, _≤_, min};
 ghost use lib.ListN.{length};
 ghost use lib.Dec.{eqb};
 ghost use Rattle.lent.specs.Bytes.{byteAt};
@@ -77,8 +78,10 @@ pub fn padding_id(cat: &[u8]) -> u16
     lent::u16_at(cat, PADDING_ID)
 }
 
-// The first id of a class; 255 where none before it is.
-pub fn id_of(cat: &[u8], class: u8) -> u8
+// ---- the first id of a class; 255 where none before it is
+
+// One by one, of any bytes.
+fn search_id(cat: &[u8], class: u8) -> u8
     ensures { λ r. ⌜ r ≡ idOf (now (cat .entry)) class ⌝ }
 {
     let mut id: u8 = 0;
@@ -91,6 +94,41 @@ pub fn id_of(cat: &[u8], class: u8) -> u8
         left -= 1;
     }
     id
+}
+
+fn id_if(kind: u8, class: u8, id: u8) -> u8
+    ensures { λ r. ⌜ r ≡ cond (eqb (kind / 16) class) id 255 ⌝ }
+{
+    if kind / 16 == class { id } else { LAST_ID }
+}
+
+fn lesser(a: u8, b: u8) -> u8
+    ensures { λ r. ⌜ r ≡ min a b ⌝ }
+{
+    if a < b { a } else { b }
+}
+
+// No way out before the end, for the same reason as in `kinds_ok`.
+fn least_id(cat: &[u8], class: u8) -> u8
+    requires { ⌜ 256 ≤ length (now cat) ⌝ }
+    ensures { λ r. ⌜ r ≡ idOf (now (cat .entry)) class ⌝ }
+{
+    let mut best: u8 = LAST_ID;
+    let mut id: usize = 0;
+    while id < IDS {
+        best = lesser(best, id_if(cat[id], class, id as u8));
+        id += 1;
+    }
+    best
+}
+
+pub fn id_of(cat: &[u8], class: u8) -> u8
+    ensures { λ r. ⌜ r ≡ idOf (now (cat .entry)) class ⌝ }
+{
+    if cat.len() < IDS {
+        return search_id(cat, class);
+    }
+    least_id(cat, class)
 }
 
 // The header's field id.

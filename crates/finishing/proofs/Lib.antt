@@ -1,3 +1,4 @@
 pub mod Ended
 pub mod Sorting
 pub mod Picking
+mod Ranked

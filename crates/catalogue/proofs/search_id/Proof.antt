@@ -5,8 +5,8 @@ use mathlib.Core.Path.{_∙_, _≡_, refl, sym}
 use native.Mathlib.Omega.{arith}
 use Rattle.catalogue.proofs.First.{first-here, first-last, first-later}
 use Rattle.catalogue.specs.Catalogue.{firstOf, idOf}
-use Rattle.catalogue.proofs.id_of.Statement.{statement}
-use Rattle.catalogue.proofs.id_of.Tie as tie
+use Rattle.catalogue.proofs.search_id.Statement.{statement}
+use Rattle.catalogue.proofs.search_id.Tie as tie
 
 abbrev Inv-loop : tie.InvT-loop
 Inv-loop cat class id₀ left₀ id left = (id + left ≡ 255) × (firstOf cat class id left ≡ idOf cat class)
@@ -38,8 +38,8 @@ loop-again c = (omega arith, first-later _ _ _ _ _ (c .before .before .before .l
 returns-2 : tie.Need-returns-2 Inv-loop μ-loop
 returns-2 c = first-last _ _ _ _ _ (c .before .loop .inv .1) (omega arith)
 
-pub id-of-spec : {M : Type 1} → statement M
-id-of-spec =
+pub search-id-spec : {M : Type 1} → statement M
+search-id-spec =
     tie.close
     (tie.spec
     Inv-loop
