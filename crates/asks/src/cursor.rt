@@ -115,6 +115,13 @@ fn begun(holder: &[u8]) -> Answer {
     Answer::Word(answer::MALFORMED)
 }
 
+pub fn read(k: usize, line: &[u8], c: FieldCursor) -> Answer {
+    if k == words::BUILT {
+        return Answer::State(c);
+    }
+    begun(caseline::word(line, 1))
+}
+
 pub fn asked(
     k: usize,
     line: &[u8],
@@ -127,12 +134,6 @@ pub fn asked(
 ) -> Answer
     requires { ⌜ 24640 ≤ length (now made) ⌝ }
 {
-    if k == words::BEGIN {
-        return begun(caseline::word(line, 1));
-    }
-    if k == words::BUILT {
-        return Answer::State(c);
-    }
     placed(call(
         k,
         line,

@@ -16,12 +16,24 @@ mod verdicts;
 mod words;
 
 use answer::Answer;
+use builders::FieldCursor;
 use kept::Kept;
 use kept::Made;
 use kept::Slots;
 
 // Words that change nothing, and those that are answered where their bytes are.
-fn read(k: usize, line: &[u8], bytes: &[u8], cat: &[u8], l: &[u8], plans: &[u8]) -> Answer {
+fn read(
+    k: usize,
+    line: &[u8],
+    bytes: &[u8],
+    cat: &[u8],
+    l: &[u8],
+    c: FieldCursor,
+    plans: &[u8],
+) -> Answer {
+    if k < words::CATALOGUE {
+        return cursor::read(k, line, c);
+    }
     if k < words::SUM {
         return layouts::asked(k, line, bytes, cat, l);
     }
@@ -44,20 +56,15 @@ fn called(
 ) -> Answer {
     let cat = kept::catalogue(kept);
     let l = kept::layout(kept);
+    let c = kept::cursor(kept);
     if k < words::PLAN {
-        return cursor::asked(k, line, bytes, cat, l, kept::cursor(kept), made, slots);
+        return cursor::asked(k, line, bytes, cat, l, c, made, slots);
     }
-    if k < words::CATALOGUE {
+    if k < words::BEGIN {
         return plans::asked(k, line, bytes, cat, l, made);
     }
-    read(
-        k,
-        line,
-        bytes,
-        cat,
-        l,
-        lent::part(made, 0, kept::PLANS_SIZE),
-    )
+    let plans = lent::part(made, 0, kept::PLANS_SIZE);
+    read(k, line, bytes, cat, l, c, plans)
 }
 
 // The answer, and behind it or in its place the bytes that a call has made.

@@ -1,28 +1,28 @@
 // The words, each with what has to stand behind it: a letter for each word of the line, as `most` tells.
 
-pub const BEGIN: usize = 0;
+pub const SCALAR: usize = 0;
 
-pub const SCALAR: usize = 1;
+pub const STRING: usize = 1;
 
-pub const STRING: usize = 2;
+pub const LIKE: usize = 2;
 
-pub const LIKE: usize = 3;
+pub const NESTED: usize = 3;
 
-pub const NESTED: usize = 4;
+pub const NESTED_ARRAY: usize = 4;
 
-pub const NESTED_ARRAY: usize = 5;
+pub const AT: usize = 5;
 
-pub const AT: usize = 6;
+pub const FINISH_BASE: usize = 6;
 
-pub const FINISH_BASE: usize = 7;
+pub const FINISH: usize = 7;
 
-pub const FINISH: usize = 8;
+pub const PLAN: usize = 8;
 
-pub const BUILT: usize = 9;
+pub const PUT: usize = 9;
 
-pub const PLAN: usize = 10;
+pub const BEGIN: usize = 10;
 
-pub const PUT: usize = 11;
+pub const BUILT: usize = 11;
 
 pub const CATALOGUE: usize = 12;
 
@@ -69,8 +69,7 @@ pub const MALFORMED: usize = 31;
 pub fn which(line: &[u8]) -> usize {
     listed(
         line,
-        b"begin a
-scalar RH
+        b"scalar RH
 string RH
 like RH
 nested RH
@@ -78,9 +77,10 @@ nested_array RH
 at n
 finish_base
 finish H
-built f
 plan nnnBMnnH
 put nH
+begin *
+built f*
 catalogue C
 layout H
 size n
@@ -133,9 +133,10 @@ fn fits(line: &[u8], entry: &[u8]) -> bool {
     caseline::words(line) == 1
 }
 
-// Word i has kind i; the blank stands where the first word does.
+// Word i has kind i; the blank stands where the first word does. Where a star stands there may be any words.
 fn shaped(line: &[u8], kinds: &[u8]) -> bool {
-    let mut good = caseline::words(line) == kinds.len();
+    let starred = caseline::find(kinds, 0, b'*') < kinds.len();
+    let mut good = starred | (caseline::words(line) == kinds.len());
     let mut i = 1;
     while i < kinds.len() {
         good = good & is_kind(caseline::word(line, i), kinds[i]);
@@ -145,7 +146,7 @@ fn shaped(line: &[u8], kinds: &[u8]) -> bool {
 }
 
 fn is_kind(text: &[u8], kind: u8) -> bool {
-    if kind == b'a' {
+    if kind == b'*' {
         return true;
     }
     if kind == b'd' {
@@ -164,8 +165,8 @@ fn at_most(text: &[u8], n: usize) -> bool {
     }
 }
 
-// The largest number of a small letter; the most bytes in hex of a capital. Besides there are `a`, any word, and `d`, a
-// number of two bytes or a dash.
+// The largest number of a small letter; the most bytes in hex of a capital. Besides there are `d`, a number
+// of two bytes or a dash, and the star.
 fn most(kind: u8) -> usize {
     match kind {
         b'f' => limits::MAX_FIELDS,

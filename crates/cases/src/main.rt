@@ -21,17 +21,25 @@ fn is_echoed(line: &[u8]) -> bool {
     line[0] == b'#'
 }
 
+fn echo(line: &[u8]) {
+    io::write_all(STDOUT_FILENO, line);
+    io::write_all(STDOUT_FILENO, b"\n");
+}
+
 // Writes the answer to a line, and what it asks to keep is kept.
-fn answered(line: &[u8], kept: &mut Kept, made: &mut Made, slots: &mut Slots) {
-    if is_echoed(line) {
-        io::write_all(STDOUT_FILENO, line);
-        io::write_all(STDOUT_FILENO, b"\n");
-        return;
-    }
+fn answer(line: &[u8], kept: &mut Kept, made: &mut Made, slots: &mut Slots) {
     let mut out = [0u8; 16384];
     let n = asks::asked(line, kept, made, slots, &mut out);
     let end = caseline::put::byte(&mut out, n, NEWLINE);
     io::write_all(STDOUT_FILENO, lent::part(&out, 0, end));
+}
+
+fn answered(line: &[u8], kept: &mut Kept, made: &mut Made, slots: &mut Slots) {
+    if is_echoed(line) {
+        echo(line);
+        return;
+    }
+    answer(line, kept, made, slots);
 }
 
 // Answers each whole line, and tells where the rest starts.

@@ -6,10 +6,13 @@ use Rattle.asks.proofs.words.shaped.Statement.{statement}
 use Rattle.asks.proofs.words.shaped.Tie as tie
 
 abbrev Inv-loop : tie.InvT-loop
-Inv-loop line kinds good₀ i₀ good i = Unit {0}
+Inv-loop line kinds starred good₀ i₀ good i = Unit {0}
 
 abbrev μ-loop : tie.MeasureT-loop
-μ-loop line kinds good₀ i₀ good i = length kinds - i
+μ-loop line kinds starred good₀ i₀ good i = length kinds - i
+
+find-requires : tie.Need-find-requires Inv-loop μ-loop
+find-requires c κs = search needs
 
 words-requires : tie.Need-words-requires Inv-loop μ-loop
 words-requires c κs = search needs
@@ -44,6 +47,7 @@ shaped-spec =
     (tie.spec
     Inv-loop
     μ-loop
+    find-requires
     words-requires
     loop-holds
     word-requires
