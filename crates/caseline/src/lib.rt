@@ -1,5 +1,4 @@
 // The parts of a line of cases: words that tabs part, bytes in hex, numbers; and the answer that is put together.
-pub mod answer;
 pub mod put;
 
 ghost use Prim.Native.Nat.{_+_, _≤_};
@@ -15,6 +14,9 @@ const TAB: u8 = b'\t';
 
 // Digits of the longest number: far from wrapping.
 const MOST_DIGITS: usize = 9;
+
+// No line is longer.
+const LONGEST: usize = 131072;
 
 // What is no digit.
 const NONE: u8 = 255;
@@ -45,14 +47,22 @@ fn past_tab(s: &[u8], from: usize) -> usize
     if tab < s.len() { tab + 1 } else { tab }
 }
 
-// Word k, or nothing where there are fewer.
-pub fn word(line: &[u8], k: usize) -> &[u8] {
+// Where word k starts.
+fn start(line: &[u8], k: usize) -> usize
+    ensures { λ r. ⌜ r ≤ length (now (line .entry)) ⌝ }
+{
     let mut from = 0;
     let mut left = k;
     while left != 0 {
         from = past_tab(line, from);
         left -= 1;
     }
+    from
+}
+
+// Word k, or nothing where there are fewer.
+pub fn word(line: &[u8], k: usize) -> &[u8] {
+    let from = start(line, k);
     let end = find(line, from, TAB);
     &line[from..end]
 }
@@ -88,7 +98,7 @@ fn digit(c: u8) -> u8 {
     NONE
 }
 
-fn is_hex(text: &[u8]) -> bool {
+pub fn is_hex(text: &[u8]) -> bool {
     let mut good = text.len() % 2 == 0;
     let mut at = 0;
     while at < text.len() {
@@ -125,6 +135,28 @@ pub fn hex(text: &[u8], out: &mut [u8]) -> Parsed {
     }
     unhex(text, out, n);
     Parsed::Is(n)
+}
+
+// The bytes of all words that are in hex, each word's at half of its place in the line; those of other words mean nothing.
+pub fn decode(line: &[u8], out: &mut [u8]) {
+    let mut at = 0;
+    while at < line.len() {
+        if LONGEST <= at {
+            return;
+        }
+        let b = joined(digit(line[at]), digit(lent::byte_at(line, at + 1)));
+        put::byte(out, at / 2, b);
+        if line[at] == TAB {
+            at += 1;
+        } else {
+            at += 2;
+        }
+    }
+}
+
+// The bytes of word k of a line that is decoded.
+pub fn bytes<'a>(line: &[u8], k: usize, decoded: &'a [u8]) -> &'a [u8] {
+    lent::part(decoded, start(line, k) / 2, word(line, k).len() / 2)
 }
 
 // ---- numbers
@@ -172,7 +204,9 @@ pub fn short(text: &[u8]) -> Parsed {
 // ---- ids
 
 // The ids of two bytes each: as many as the bytes have, and as there is room for.
-pub fn ids(bytes: &[u8], ids: &mut [u16]) -> usize {
+pub fn ids(bytes: &[u8], ids: &mut [u16]) -> usize
+    ensures { λ r. ⌜ r ≤ length (now (ids .entry)) ⌝ }
+{
     let mut n = 0;
     while n < ids.len() {
         if bytes.len() / 2 <= n {

@@ -1,15 +1,8 @@
 // Reads cases from standard input, one a line, and writes the answer to each as a line to standard output.
-mod kept;
-mod words;
-
-use ask_cursor::Rows;
-use ask_cursor::Slots;
-use ask_cursor::State;
-use ask_upgrade::Plans;
+use asks::kept::Kept;
+use asks::kept::Made;
+use asks::kept::Slots;
 use input::Room;
-use kept::Catalogue;
-use kept::Sizes;
-use kept::Table;
 use libc::STDOUT_FILENO;
 
 const NEWLINE: u8 = b'\n';
@@ -28,66 +21,33 @@ fn is_echoed(line: &[u8]) -> bool {
     line[0] == b'#'
 }
 
+fn echo(line: &[u8]) {
+    io::write_all(STDOUT_FILENO, line);
+    io::write_all(STDOUT_FILENO, b"\n");
+}
+
 // Writes the answer to a line, and what it asks to keep is kept.
-fn answered(
-    line: &[u8],
-    cat: &mut Catalogue,
-    layout: &mut Table,
-    table: &mut Table,
-    sizes: &mut Sizes,
-    state: &mut State,
-    rows: &mut Rows,
-    slots: &mut Slots,
-    plans: &mut Plans,
-) {
-    if is_echoed(line) {
-        io::write_all(STDOUT_FILENO, line);
-        io::write_all(STDOUT_FILENO, b"\n");
-        return;
-    }
+fn answer(line: &[u8], kept: &mut Kept, made: &mut Made, slots: &mut Slots) {
     let mut out = [0u8; 16384];
-    let n = words::answer(
-        line,
-        cat,
-        layout,
-        table,
-        sizes,
-        state,
-        rows,
-        slots,
-        plans,
-        &mut out,
-    );
+    let n = asks::asked(line, kept, made, slots, &mut out);
     let end = caseline::put::byte(&mut out, n, NEWLINE);
     io::write_all(STDOUT_FILENO, lent::part(&out, 0, end));
 }
 
+fn answered(line: &[u8], kept: &mut Kept, made: &mut Made, slots: &mut Slots) {
+    if is_echoed(line) {
+        echo(line);
+        return;
+    }
+    answer(line, kept, made, slots);
+}
+
 // Answers each whole line, and tells where the rest starts.
-fn whole_lines(
-    bytes: &[u8],
-    cat: &mut Catalogue,
-    layout: &mut Table,
-    table: &mut Table,
-    sizes: &mut Sizes,
-    state: &mut State,
-    rows: &mut Rows,
-    slots: &mut Slots,
-    plans: &mut Plans,
-) -> usize {
+fn whole_lines(bytes: &[u8], kept: &mut Kept, made: &mut Made, slots: &mut Slots) -> usize {
     let mut at = 0;
     let mut end = caseline::find(bytes, at, NEWLINE);
     while end < bytes.len() {
-        answered(
-            &bytes[at..end],
-            cat,
-            layout,
-            table,
-            sizes,
-            state,
-            rows,
-            slots,
-            plans,
-        );
+        answered(&bytes[at..end], kept, made, slots);
         at = end + 1;
         end = caseline::find(bytes, at, NEWLINE);
     }
@@ -98,74 +58,28 @@ fn whole_lines(
 fn turn(
     room: &mut Room,
     waiting: usize,
-    cat: &mut Catalogue,
-    layout: &mut Table,
-    table: &mut Table,
-    sizes: &mut Sizes,
-    state: &mut State,
-    rows: &mut Rows,
+    kept: &mut Kept,
+    made: &mut Made,
     slots: &mut Slots,
-    plans: &mut Plans,
 ) -> Step {
     let have = input::more(room, waiting);
     if have == waiting {
         if have != 0 {
-            answered(
-                lent::part(room, 0, have),
-                cat,
-                layout,
-                table,
-                sizes,
-                state,
-                rows,
-                slots,
-                plans,
-            );
+            answered(lent::part(room, 0, have), kept, made, slots);
         }
         return Step::End;
     }
-    let rest = whole_lines(
-        lent::part(room, 0, have),
-        cat,
-        layout,
-        table,
-        sizes,
-        state,
-        rows,
-        slots,
-        plans,
-    );
+    let rest = whole_lines(lent::part(room, 0, have), kept, made, slots);
     let left = input::to_front(room, rest, have);
     Step::Waiting(input::without_long(room, left))
 }
 
 // Nothing says that the input ends, so the turns are counted down from a number that no run uses up.
-fn run(
-    room: &mut Room,
-    cat: &mut Catalogue,
-    layout: &mut Table,
-    table: &mut Table,
-    sizes: &mut Sizes,
-    state: &mut State,
-    rows: &mut Rows,
-    slots: &mut Slots,
-    plans: &mut Plans,
-) {
+fn run(room: &mut Room, kept: &mut Kept, made: &mut Made, slots: &mut Slots) {
     let mut waiting = 0;
     let mut turns = u64::MAX;
     while turns > 0 {
-        match turn(
-            room,
-            waiting,
-            cat,
-            layout,
-            table,
-            sizes,
-            state,
-            rows,
-            slots,
-            plans,
-        ) {
+        match turn(room, waiting, kept, made, slots) {
             Step::Waiting(n) => waiting = n,
             Step::End => return,
         }
@@ -175,23 +89,8 @@ fn run(
 
 fn main() {
     let mut room = input::room();
-    let mut cat = [0u8; 1024];
-    let mut layout = [0u8; 32768];
-    let mut table = [0u8; 32768];
-    let mut sizes = [0usize; 2];
-    let mut state = [0usize; 5];
-    let mut rows = [0u8; 2048];
+    let mut kept = [0u8; 33848];
+    let mut made = [0u8; 26688];
     let mut slots = [0u8; 4224];
-    let mut plans = [0u8; 24640];
-    run(
-        &mut room,
-        &mut cat,
-        &mut layout,
-        &mut table,
-        &mut sizes,
-        &mut state,
-        &mut rows,
-        &mut slots,
-        &mut plans,
-    );
+    run(&mut room, &mut kept, &mut made, &mut slots);
 }

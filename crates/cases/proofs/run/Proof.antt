@@ -4,10 +4,10 @@ use Rattle.cases.proofs.run.Statement.{statement}
 use Rattle.cases.proofs.run.Tie as tie
 
 abbrev Inv-loop : tie.InvT-loop
-Inv-loop room₀ cat₀ layout₀ table₀ sizes₀ state₀ rows₀ slots₀ plans₀ waiting₀ turns₀ room cat layout table sizes state rows slots plans waiting turns = Unit {0}
+Inv-loop room₀ kept₀ made₀ slots₀ waiting₀ turns₀ room kept made slots waiting turns = Unit {0}
 
 abbrev μ-loop : tie.MeasureT-loop
-μ-loop room₀ cat₀ layout₀ table₀ sizes₀ state₀ rows₀ slots₀ plans₀ waiting₀ turns₀ room cat layout table sizes state rows slots plans waiting turns = turns
+μ-loop room₀ kept₀ made₀ slots₀ waiting₀ turns₀ room kept made slots waiting turns = turns
 
 loop-holds : tie.Need-loop-holds Inv-loop μ-loop
 loop-holds c = search needs

@@ -6,10 +6,10 @@ use Rattle.cases.proofs.whole_lines.Statement.{statement}
 use Rattle.cases.proofs.whole_lines.Tie as tie
 
 abbrev Inv-loop : tie.InvT-loop
-Inv-loop bytes cat₀ layout₀ table₀ sizes₀ state₀ rows₀ slots₀ plans₀ at₀ end₀ cat layout table sizes state rows slots plans at end = (at ≤ end) × (end ≤ length bytes)
+Inv-loop bytes kept₀ made₀ slots₀ at₀ end₀ kept made slots at end = (at ≤ end) × (end ≤ length bytes)
 
 abbrev μ-loop : tie.MeasureT-loop
-μ-loop bytes cat₀ layout₀ table₀ sizes₀ state₀ rows₀ slots₀ plans₀ at₀ end₀ cat layout table sizes state rows slots plans at end = length bytes - at
+μ-loop bytes kept₀ made₀ slots₀ at₀ end₀ kept made slots at end = length bytes - at
 
 find-requires : tie.Need-find-requires Inv-loop μ-loop
 find-requires c κs = search needs

@@ -2,8 +2,8 @@
 use Prim.Native.Nat.{_≤_}
 use lib.ListN.{length}
 use borrow.Author.Needs.{needs}
-use Rattle.caseline.proofs.word.Statement.{statement}
-use Rattle.caseline.proofs.word.Tie as tie
+use Rattle.caseline.proofs.start.Statement.{statement}
+use Rattle.caseline.proofs.start.Tie as tie
 
 abbrev Inv-loop : tie.InvT-loop
 Inv-loop line k from₀ left₀ from left = from ≤ length line
@@ -26,23 +26,11 @@ loop-less c = search needs
 loop-again : tie.Need-loop-again Inv-loop μ-loop
 loop-again c = search needs
 
-find-requires : tie.Need-find-requires Inv-loop μ-loop
-find-requires c κs = search needs
-
-sub-result : tie.Need-sub-result Inv-loop μ-loop
-sub-result c = search needs
-
-part-result-start : tie.Need-part-result-start Inv-loop μ-loop
-part-result-start c = search needs
-
-part-result-end : tie.Need-part-result-end Inv-loop μ-loop
-part-result-end c = search needs
-
 returns : tie.Need-returns Inv-loop μ-loop
 returns c = search needs
 
-pub word-spec : {M : Type 1} → statement M
-word-spec =
+pub start-spec : {M : Type 1} → statement M
+start-spec =
     tie.close
     (tie.spec
     Inv-loop
@@ -52,8 +40,4 @@ word-spec =
     sub-left
     loop-less
     loop-again
-    find-requires
-    sub-result
-    part-result-start
-    part-result-end
     returns)
