@@ -7,10 +7,11 @@ use owl_say::files;
 use owl_say::files::Loaded;
 use owl_say::files::Text;
 
-fn is_word(k: usize, text: &[u8]) -> bool {
+// Which command the first word is.
+fn command() -> usize {
     let mut word = io::buffer();
-    let n = os::arg(k, &mut word);
-    lent::same(&word[..n], text)
+    let n = os::arg(1, &mut word);
+    owl_words::which(b"help plan hash upgrade check map", &word[..n])
 }
 
 fn make(text: &Text, n: usize, hash: bool) {
@@ -38,31 +39,17 @@ fn unknown() {
     owl_say::complain(b"' is no command; expected plan, hash, upgrade, check, map or help\n");
 }
 
-fn with_plan() {
-    if is_word(1, b"upgrade") {
-        return plans::upgrade();
-    }
-    if is_word(1, b"check") {
-        return plans::check();
-    }
-    if is_word(1, b"map") {
-        return plans::map();
-    }
-    unknown();
-}
-
 fn main() {
     if os::arg_count() < 2 {
         return demo::show();
     }
-    if is_word(1, b"help") {
-        return help::show();
+    match command() {
+        0 => help::show(),
+        1 => on_layouts(false),
+        2 => on_layouts(true),
+        3 => plans::upgrade(),
+        4 => plans::check(),
+        5 => plans::map(),
+        _ => unknown(),
     }
-    if is_word(1, b"plan") {
-        return on_layouts(false);
-    }
-    if is_word(1, b"hash") {
-        return on_layouts(true);
-    }
-    with_plan();
 }

@@ -2,28 +2,26 @@
 use caseline::Parsed;
 use libc::STDERR_FILENO;
 use libc::STDOUT_FILENO;
-use owl_map::numbers::Slot;
 use owl_say::files;
 use owl_say::files::Loaded;
 use owl_say::files::Text;
+use owl_tape::Slot;
 use plan_read::reader::ReadPlan;
 use tuppenceowl::texting;
 
 // dbn's header in versions 1 to 3.
 const HEADER: usize = 16;
 
-fn say_refused(fd: i32, text: &[u8]) {
-    files::say_arg(fd, 2);
-    owl_check::say(fd, text);
-}
-
 fn read(text: &Text, n: usize, slot: &mut Slot, fd: i32) -> bool {
     let all = lent::part(text, 0, n);
     match texting::read_plan(all, slot) {
-        ReadPlan::Read => return true,
-        ReadPlan::Refused(_) => say_refused(fd, all),
+        ReadPlan::Read => true,
+        ReadPlan::Refused(_) => {
+            files::say_arg(fd, 2);
+            owl_check::say(fd, all);
+            false
+        }
     }
-    false
 }
 
 // Whether a plan stands in the slot; if not, it was said why.

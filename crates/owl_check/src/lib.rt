@@ -3,7 +3,6 @@
 pub mod flaw;
 pub mod lines;
 
-use flaw::Flaw;
 use lines::Look;
 use lines::Seen;
 
@@ -12,14 +11,14 @@ const NEWLINE: u8 = b'\n';
 // What is wrong once every line was looked at.
 fn at_end(text: &[u8], s: Seen) -> Look {
     if s.line < 2 {
-        return lines::flawed(lines::next(s), 0, Flaw::Missing);
+        return lines::flawed(lines::next(s), 0, flaw::MISSING);
     }
     if s.steps != s.count {
-        return lines::flawed(s, 0, Flaw::StepCount);
+        return lines::flawed(s, 0, flaw::STEP_COUNT);
     }
     if text.len() != 0 {
         if lent::byte_at(text, text.len() - 1) != NEWLINE {
-            return lines::flawed(s, 0, Flaw::NoNewline);
+            return lines::flawed(s, 0, flaw::NO_NEWLINE);
         }
     }
     Look::Fine(s)

@@ -1,6 +1,6 @@
 // One line of a plan's text after the other.
 ghost use Prim.Native.Nat.{_<_};
-use crate::flaw::Flaw;
+use crate::flaw;
 use caseline::Parsed;
 
 // What the lines before said.
@@ -17,7 +17,7 @@ pub struct Seen {
 pub enum Look {
     Fine(Seen),
     // Line, field and what is wrong.
-    Flawed(usize, usize, Flaw),
+    Flawed(usize, usize, usize),
 }
 
 pub fn start() -> Seen {
@@ -44,7 +44,7 @@ pub fn next(s: Seen) -> Seen {
     n
 }
 
-pub fn flawed(s: Seen, word: usize, why: Flaw) -> Look {
+pub fn flawed(s: Seen, word: usize, why: usize) -> Look {
     Look::Flawed(s.line, word, why)
 }
 
@@ -83,14 +83,6 @@ fn first_bad(line: &[u8], from: usize, to: usize) -> usize {
     to
 }
 
-fn is_hex(text: &[u8]) -> bool {
-    let mut space = [0u8; 65536];
-    match caseline::hex(text, &mut space) {
-        Parsed::Is(_) => true,
-        Parsed::Malformed => false,
-    }
-}
-
 // ---- the first two lines
 
 fn head_ok(line: &[u8]) -> bool {
@@ -103,20 +95,20 @@ fn head_ok(line: &[u8]) -> bool {
 
 fn look_plan(line: &[u8], s: Seen) -> Look {
     if !lent::same(caseline::word(line, 0), b"plan") {
-        return flawed(s, 0, Flaw::PlanWord);
+        return flawed(s, 0, flaw::PLAN_WORD);
     }
     if caseline::words(line) != 9 {
-        return flawed(s, 0, Flaw::Words);
+        return flawed(s, 0, flaw::WORDS);
     }
     if !lent::same(caseline::word(line, 1), b"1") {
-        return flawed(s, 1, Flaw::Edition);
+        return flawed(s, 1, flaw::EDITION);
     }
     let bad = first_bad(line, 2, 9);
     if bad < 9 {
-        return flawed(s, bad, Flaw::Number);
+        return flawed(s, bad, flaw::NUMBER);
     }
     if !head_ok(line) {
-        return flawed(s, 0, Flaw::Head);
+        return flawed(s, 0, flaw::HEAD);
     }
     let mut n = s;
     n.header = number(line, 5);
@@ -128,17 +120,17 @@ fn look_plan(line: &[u8], s: Seen) -> Look {
 
 fn look_body(line: &[u8], s: Seen) -> Look {
     if !lent::same(caseline::word(line, 0), b"body") {
-        return flawed(s, 0, Flaw::BodyWord);
+        return flawed(s, 0, flaw::BODY_WORD);
     }
     if caseline::words(line) != 2 {
-        return flawed(s, 0, Flaw::Words);
+        return flawed(s, 0, flaw::WORDS);
     }
-    let hex = caseline::word(line, 1);
-    if !is_hex(hex) {
-        return flawed(s, 1, Flaw::Hex);
-    }
-    if hex.len() / 2 != lent::greater(s.size, s.header) - s.header {
-        return flawed(s, 1, Flaw::BodyLength);
+    let mut space = [0u8; 65536];
+    let Parsed::Is(n) = caseline::hex(caseline::word(line, 1), &mut space) else {
+        return flawed(s, 1, flaw::HEX);
+    };
+    if n != lent::greater(s.size, s.header) - s.header {
+        return flawed(s, 1, flaw::BODY_LENGTH);
     }
     Look::Fine(s)
 }
@@ -149,13 +141,13 @@ fn placed(s: Seen, from: usize, to: usize, size: usize, wide: usize) -> Look {
     let source = lent::lesser(from, 65535) + lent::lesser(size, 65535);
     let end = lent::lesser(to, 65535) + lent::lesser(wide, 65535);
     if limits::MAX_BYTES < source {
-        return flawed(s, 1, Flaw::SourceEnd);
+        return flawed(s, 1, flaw::SOURCE_END);
     }
     if to < s.end {
-        return flawed(s, 2, Flaw::Order);
+        return flawed(s, 2, flaw::ORDER);
     }
     if s.size < end {
-        return flawed(s, 2, Flaw::TargetEnd);
+        return flawed(s, 2, flaw::TARGET_END);
     }
     let mut n = s;
     n.end = end;
@@ -165,15 +157,15 @@ fn placed(s: Seen, from: usize, to: usize, size: usize, wide: usize) -> Look {
 
 fn look_copy(line: &[u8], s: Seen) -> Look {
     if caseline::words(line) != 4 {
-        return flawed(s, 0, Flaw::Words);
+        return flawed(s, 0, flaw::WORDS);
     }
     let bad = first_bad(line, 1, 4);
     if bad < 4 {
-        return flawed(s, bad, Flaw::Number);
+        return flawed(s, bad, flaw::NUMBER);
     }
     let size = number(line, 3);
     if size == 0 {
-        return flawed(s, 3, Flaw::Empty);
+        return flawed(s, 3, flaw::EMPTY);
     }
     placed(s, number(line, 1), number(line, 2), size, size)
 }
@@ -182,51 +174,48 @@ fn is_width(n: usize) -> bool {
     (n == 1) | (n == 2) | (n == 4) | (n == 8)
 }
 
-fn is_either(text: &[u8], a: &[u8], b: &[u8]) -> bool {
-    lent::same(text, a) | lent::same(text, b)
-}
-
 fn look_widths(line: &[u8], s: Seen) -> Look {
     let size = number(line, 3);
     let wide = number(line, 4);
     if !(is_width(size) & is_width(wide) & (size != wide)) {
-        return flawed(s, 3, Flaw::Widths);
+        return flawed(s, 3, flaw::WIDTHS);
     }
     if lent::same(caseline::word(line, 6), b"0") & (wide < size) {
-        return flawed(s, 4, Flaw::Narrows);
+        return flawed(s, 4, flaw::NARROWS);
     }
     placed(s, number(line, 1), number(line, 2), size, wide)
 }
 
 fn look_int(line: &[u8], s: Seen) -> Look {
     if caseline::words(line) != 7 {
-        return flawed(s, 0, Flaw::Words);
+        return flawed(s, 0, flaw::WORDS);
     }
     let bad = first_bad(line, 1, 5);
     if bad < 5 {
-        return flawed(s, bad, Flaw::Number);
+        return flawed(s, bad, flaw::NUMBER);
     }
-    if !is_either(caseline::word(line, 5), b"u", b"s") {
-        return flawed(s, 5, Flaw::Sign);
+    if 1 < owl_words::which(b"u s", caseline::word(line, 5)) {
+        return flawed(s, 5, flaw::SIGN);
     }
-    if !is_either(caseline::word(line, 6), b"0", b"1") {
-        return flawed(s, 6, Flaw::Mark);
+    if 1 < owl_words::which(b"0 1", caseline::word(line, 6)) {
+        return flawed(s, 6, flaw::MARK);
     }
     look_widths(line, s)
 }
 
+fn look_step(line: &[u8], s: Seen) -> Look {
+    match owl_words::which(b"copy int", caseline::word(line, 0)) {
+        0 => look_copy(line, s),
+        1 => look_int(line, s),
+        _ => flawed(s, 0, flaw::STEP_WORD),
+    }
+}
+
 pub fn on_line(line: &[u8], s: Seen) -> Look {
-    if s.line == 1 {
-        return look_plan(line, s);
+    let number = s.line;
+    match number {
+        1 => look_plan(line, s),
+        2 => look_body(line, s),
+        _ => look_step(line, s),
     }
-    if s.line == 2 {
-        return look_body(line, s);
-    }
-    if lent::same(caseline::word(line, 0), b"copy") {
-        return look_copy(line, s);
-    }
-    if lent::same(caseline::word(line, 0), b"int") {
-        return look_int(line, s);
-    }
-    flawed(s, 0, Flaw::StepWord)
 }

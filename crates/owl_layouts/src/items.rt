@@ -1,30 +1,29 @@
 // The items inside a record, and what the plan asks.
+use crate::calls;
+use crate::calls::Call;
+use crate::fault;
+use crate::pack;
+use crate::room;
+use crate::room::Room;
+use crate::state;
+use crate::state::State;
+use crate::state::Took;
 use builders::Placed;
 use caseline::Parsed;
+use caseline::put;
 use layout::block::Holder;
-use owl_fields::fault::Why;
-use owl_fields::pack;
-use owl_fields::room;
-use owl_fields::room::Block;
-use owl_fields::room::Catalogue;
-use owl_fields::room::Names;
-use owl_fields::room::Rows;
-use owl_fields::state;
-use owl_fields::state::State;
-use owl_fields::state::Took;
 use tuppenceowl::Admitted;
-use tuppenceowl::building;
 
 // ---- inside a record
 
-fn moved(p: Placed, word: usize, s: State) -> Took {
-    match p {
+fn moved(room: &mut Room, call: Call, word: usize, s: State) -> Took {
+    match calls::on_cursor(room, s.cursor, call, 0, b"") {
         Placed::At(c) => {
             let mut next = s;
             next.cursor = c;
             Took::Next(next)
         }
-        Placed::Refused(r) => state::bad(s, word, Why::Refused(r)),
+        Placed::Refused(r) => state::bad(s, word, state::number(r)),
     }
 }
 
@@ -36,31 +35,31 @@ fn single(line: &[u8]) -> Parsed {
     caseline::short(owl_words::word(line, 1))
 }
 
-pub fn at(line: &[u8], cat: &[u8], rows: &mut Rows, slots: &mut Names, s: State) -> Took {
+pub fn at(line: &[u8], room: &mut Room, s: State) -> Took {
     if s.open == state::NOTHING {
-        return state::bad(s, 0, Why::NotOpen);
+        return state::bad(s, 0, fault::NOT_OPEN);
     }
     let Parsed::Is(offset) = single(line) else {
-        return state::bad(s, 1, Why::NoNumber);
+        return state::bad(s, 1, fault::NO_NUMBER);
     };
-    moved(building::at(cat, rows, slots, s.cursor, offset), 1, s)
+    moved(room, Call::At(offset), 1, s)
 }
 
-pub fn base(line: &[u8], cat: &[u8], rows: &mut Rows, slots: &mut Names, s: State) -> Took {
+pub fn base(line: &[u8], room: &mut Room, s: State) -> Took {
     if s.open == state::NOTHING {
-        return state::bad(s, 0, Why::NotOpen);
+        return state::bad(s, 0, fault::NOT_OPEN);
     }
     if owl_words::words(line) != 1 {
-        return state::bad(s, 1, Why::TooMany);
+        return state::bad(s, 1, fault::TOO_MANY);
     }
-    moved(building::finish_base(cat, rows, slots, s.cursor), 0, s)
+    moved(room, Call::Base, 0, s)
 }
 
 // ---- what the plan asks
 
 pub fn header(line: &[u8], s: State) -> Took {
     let Parsed::Is(n) = single(line) else {
-        return state::bad(s, 1, Why::NoNumber);
+        return state::bad(s, 1, fault::NO_NUMBER);
     };
     let mut next = s;
     next.header = n;
@@ -70,7 +69,7 @@ pub fn header(line: &[u8], s: State) -> Took {
 
 pub fn wanted(line: &[u8], s: State) -> Took {
     let Parsed::Is(n) = single(line) else {
-        return state::bad(s, 1, Why::NoNumber);
+        return state::bad(s, 1, fault::NO_NUMBER);
     };
     let mut next = s;
     next.wanted = true;
@@ -78,23 +77,27 @@ pub fn wanted(line: &[u8], s: State) -> Took {
     Took::Next(next)
 }
 
-// Which records the plan is between, by the first of each name.
-pub fn plan(line: &[u8], source: &Block, target: &Block, s: State) -> Took {
-    let n = owl_words::words(line);
-    if n != 3 {
-        return state::bad(
-            s,
-            lent::lesser(n, 3),
-            if n < 3 { Why::TooFew } else { Why::TooMany },
-        );
+// The first record of a side with the name that word k is.
+fn record_of(line: &[u8], room: &Room, side: u8, n: u8, k: usize) -> Parsed {
+    pack::named(
+        Holder::Record,
+        room::block(room, side),
+        n,
+        owl_words::word(line, k),
+    )
+}
+
+// Which records the plan is between.
+pub fn plan(line: &[u8], room: &Room, s: State) -> Took {
+    let flaw = fault::of_count(line, 3);
+    if flaw.why != fault::FINE {
+        return state::bad(s, flaw.word, flaw.why);
     }
-    let Parsed::Is(from) = pack::named(Holder::Record, source, s.sources, owl_words::word(line, 1))
-    else {
-        return state::bad(s, 1, Why::NoSuch);
+    let Parsed::Is(from) = record_of(line, room, state::SOURCE, s.sources, 1) else {
+        return state::bad(s, 1, fault::NO_SUCH);
     };
-    let Parsed::Is(to) = pack::named(Holder::Record, target, s.targets, owl_words::word(line, 2))
-    else {
-        return state::bad(s, 2, Why::NoSuch);
+    let Parsed::Is(to) = record_of(line, room, state::TARGET, s.targets, 2) else {
+        return state::bad(s, 2, fault::NO_SUCH);
     };
     let mut next = s;
     next.chosen = true;
@@ -104,20 +107,21 @@ pub fn plan(line: &[u8], source: &Block, target: &Block, s: State) -> Took {
 }
 
 // Another catalogue than the one that is built in, before all that it decides.
-pub fn catalogue(line: &[u8], cat: &mut Catalogue, s: State) -> Took {
+pub fn catalogue(line: &[u8], room: &mut Room, s: State) -> Took {
     if s.opened != 0 {
-        return state::bad(s, 0, Why::Late);
+        return state::bad(s, 0, fault::LATE);
     }
-    match caseline::hex(owl_words::word(line, 1), cat) {
-        Parsed::Is(n) => {
-            if n != room::CATALOGUE {
-                return state::bad(s, 1, Why::CatalogueLength);
-            }
-        }
-        Parsed::Malformed => return state::bad(s, 1, Why::CatalogueLength),
+    let mut cat = [0u8; room::CATALOGUE];
+    let n = match caseline::hex(owl_words::word(line, 1), &mut cat) {
+        Parsed::Is(n) => n,
+        Parsed::Malformed => 0,
+    };
+    if n != room::CATALOGUE {
+        return state::bad(s, 1, fault::CATALOGUE_LENGTH);
     }
-    match tuppenceowl::check_catalogue(cat) {
+    put::text(room, 0, &cat);
+    match tuppenceowl::check_catalogue(&cat) {
         Admitted::Fine => Took::Next(s),
-        Admitted::Refused(r) => state::bad(s, 1, Why::Refused(r)),
+        Admitted::Refused(r) => state::bad(s, 1, state::number(r)),
     }
 }

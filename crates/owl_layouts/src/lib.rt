@@ -1,22 +1,18 @@
 // A text of layouts, as people write them (docs/OWL.md): items, one a line, read into the bytes that the public calls take.
-pub mod closing;
+pub mod calls;
+pub mod defaults;
+pub mod fault;
+pub mod fields;
 pub mod items;
-pub mod opening;
+pub mod pack;
+pub mod room;
+pub mod state;
+pub mod types;
+pub mod whole;
 
-use owl_fields::fault::Why;
-use owl_fields::fields;
-use owl_fields::pack;
-use owl_fields::room;
-use owl_fields::room::Block;
-use owl_fields::room::Bodies;
-use owl_fields::room::Catalogue;
-use owl_fields::room::Marks;
-use owl_fields::room::Names;
-use owl_fields::room::Rows;
-use owl_fields::state;
-use owl_fields::state::State;
-use owl_fields::state::Took;
-use owl_fields::types;
+use room::Room;
+use state::State;
+use state::Took;
 
 const NEWLINE: u8 = b'\n';
 
@@ -24,7 +20,7 @@ const NEWLINE: u8 = b'\n';
 
 fn counted(n: u8, line: &[u8], item: &[u8]) -> u8 {
     if n < 255 {
-        if owl_words::is(owl_words::content(line), 0, item) {
+        if lent::same(owl_words::word(owl_words::content(line), 0), item) {
             return n + 1;
         }
     }
@@ -59,86 +55,78 @@ pub fn line_of(text: &[u8], item: &[u8], k: u8) -> usize {
     line
 }
 
-fn begun(text: &[u8], cat: &mut Catalogue, source: &mut Block, target: &mut Block) -> State {
-    types::put_catalogue(cat);
+fn begun(text: &[u8], room: &mut Room) -> State {
+    types::put_catalogue(room);
     let structs = count(text, b"struct");
-    let source_end = pack::put_counts(source, count(text, b"source"), structs);
-    let target_end = pack::put_counts(target, count(text, b"target"), structs);
+    let sources = count(text, b"source");
+    let targets = count(text, b"target");
+    let source_end = pack::put_counts(room, state::SOURCE, sources, structs);
+    let target_end = pack::put_counts(room, state::TARGET, targets, structs);
     state::start(source_end, target_end)
 }
 
 // ---- a line
 
-// Items that belong to what is open.
-fn take_inner(
-    line: &[u8],
-    cat: &mut Catalogue,
-    source: &Block,
-    rows: &mut Rows,
-    slots: &mut Names,
-    bodies: &mut Bodies,
-    marks: &mut Marks,
-    s: State,
-) -> Took {
-    if owl_words::is(line, 0, b"field") {
-        return fields::take(line, cat, source, rows, slots, bodies, marks, s);
-    }
-    if owl_words::is(line, 0, b"at") {
-        return items::at(line, cat, rows, slots, s);
-    }
-    if owl_words::is(line, 0, b"base") {
-        return items::base(line, cat, rows, slots, s);
-    }
-    if owl_words::is(line, 0, b"header") {
-        return items::header(line, s);
-    }
-    if owl_words::is(line, 0, b"wanted") {
-        return items::wanted(line, s);
-    }
-    if owl_words::is(line, 0, b"catalogue") {
-        return items::catalogue(line, cat, s);
-    }
-    state::bad(s, 0, Why::NoItem)
+// The items by number; the first four close what is open.
+const SOURCE: usize = 0;
+
+const TARGET: usize = 1;
+
+const STRUCT: usize = 2;
+
+const PLAN: usize = 3;
+
+const FIELD: usize = 4;
+
+const AT: usize = 5;
+
+const BASE: usize = 6;
+
+const HEADER: usize = 7;
+
+const WANTED: usize = 8;
+
+const CATALOGUE: usize = 9;
+
+fn item_of(line: &[u8]) -> usize {
+    owl_words::which(
+        b"source target struct plan field at base header wanted catalogue",
+        owl_words::word(line, 0),
+    )
 }
 
-fn closes(line: &[u8]) -> bool {
-    let records = owl_words::is(line, 0, b"source") | owl_words::is(line, 0, b"target");
-    records | owl_words::is(line, 0, b"struct") | owl_words::is(line, 0, b"plan")
+fn take_inner(item: usize, line: &[u8], room: &mut Room, s: State) -> Took {
+    match item {
+        FIELD => fields::take(line, room, s),
+        AT => items::at(line, room, s),
+        BASE => items::base(line, room, s),
+        HEADER => items::header(line, s),
+        WANTED => items::wanted(line, s),
+        CATALOGUE => items::catalogue(line, room, s),
+        _ => state::bad(s, 0, fault::NO_ITEM),
+    }
 }
 
-// Items that close what is open.
-fn take_outer(line: &[u8], source: &mut Block, target: &mut Block, s: State) -> Took {
-    if owl_words::is(line, 0, b"source") {
-        return opening::open_record(line, source, s.sources, state::SOURCE, s);
+fn take_outer(item: usize, line: &[u8], room: &mut Room, s: State) -> Took {
+    match item {
+        SOURCE => whole::open_record(line, room, state::SOURCE, s.sources, s),
+        TARGET => whole::open_record(line, room, state::TARGET, s.targets, s),
+        STRUCT => whole::open_struct(line, room, s),
+        _ => items::plan(line, room, s),
     }
-    if owl_words::is(line, 0, b"target") {
-        return opening::open_record(line, target, s.targets, state::TARGET, s);
-    }
-    if owl_words::is(line, 0, b"struct") {
-        return opening::open_struct(line, source, target, s);
-    }
-    items::plan(line, source, target, s)
 }
 
-fn take(
-    line: &[u8],
-    cat: &mut Catalogue,
-    source: &mut Block,
-    target: &mut Block,
-    rows: &mut Rows,
-    slots: &mut Names,
-    bodies: &mut Bodies,
-    marks: &mut Marks,
-    s: State,
-) -> Took {
+fn take(whole_line: &[u8], room: &mut Room, s: State) -> Took {
+    let line = owl_words::content(whole_line);
     if owl_words::words(line) == 0 {
         return Took::Next(s);
     }
-    if !closes(line) {
-        return take_inner(line, cat, source, rows, slots, bodies, marks, s);
+    let item = item_of(line);
+    if PLAN < item {
+        return take_inner(item, line, room, s);
     }
-    match closing::close(cat, source, target, rows, slots, s) {
-        Took::Next(next) => take_outer(line, source, target, next),
+    match whole::close(room, s) {
+        Took::Next(next) => take_outer(item, line, room, next),
         Took::Bad(f) => Took::Bad(f),
     }
 }
@@ -154,38 +142,18 @@ fn at_line(s: State, from: usize) -> State {
 
 // ---- the text
 
-// The layouts' blocks, and of each target record 4,096 bytes of defaults and 128 marks. What is lent is zero.
-pub fn read(
-    text: &[u8],
-    cat: &mut Catalogue,
-    source: &mut Block,
-    target: &mut Block,
-    bodies: &mut Bodies,
-    marks: &mut Marks,
-) -> Took {
-    let mut rows = [0u8; room::ROWS];
-    let mut slots = [0u8; room::NAMES];
-    let mut s = begun(text, cat, source, target);
+// The room is zero before.
+pub fn read(text: &[u8], room: &mut Room) -> Took {
+    let mut s = begun(text, room);
     let mut at = 0;
     while at < text.len() {
         let end = caseline::find(text, at, NEWLINE);
         let next_at = end + 1;
-        let line = owl_words::content(&text[at..end]);
-        match take(
-            line,
-            cat,
-            source,
-            target,
-            &mut rows,
-            &mut slots,
-            bodies,
-            marks,
-            at_line(s, at),
-        ) {
+        match take(&text[at..end], room, at_line(s, at)) {
             Took::Next(next) => s = next,
             Took::Bad(f) => return Took::Bad(f),
         }
         at = next_at;
     }
-    closing::close(cat, source, target, &mut rows, &mut slots, s)
+    whole::close(room, s)
 }

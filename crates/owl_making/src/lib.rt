@@ -1,16 +1,17 @@
 // The plan and the hashes of a text of layouts.
+pub mod faults;
+
 use layout::block::Holder;
 use libc::STDERR_FILENO;
 use libc::STDOUT_FILENO;
 use limits::refusal::Refusal;
-use owl_fields::pack;
-use owl_fields::room;
-use owl_fields::room::Block;
-use owl_fields::room::Bodies;
-use owl_fields::room::Catalogue;
-use owl_fields::room::Marks;
-use owl_fields::state::State;
-use owl_fields::state::Took;
+use owl_layouts::pack;
+use owl_layouts::room;
+use owl_layouts::room::Room;
+use owl_layouts::state;
+use owl_layouts::state::State;
+use owl_layouts::state::Took;
+use owl_say::form;
 use owl_say::refusals;
 use plan_text::writer::Written;
 use tuppenceowl::Sized;
@@ -25,6 +26,14 @@ pub type Slot = [u8; slot::SIZE];
 
 const RECORDS: u8 = limits::MAX_RECORDS as u8;
 
+fn source(room: &Room, s: State) -> &[u8] {
+    lent::part(room::block(room, state::SOURCE), 0, s.source_end)
+}
+
+fn target(room: &Room, s: State) -> &[u8] {
+    lent::part(room::block(room, state::TARGET), 0, s.target_end)
+}
+
 // ---- which records
 
 // A refusal, at the line of the item that it concerns: the header's, or else the target's.
@@ -34,75 +43,77 @@ fn refused(text: &[u8], s: State, to: u8, r: Refusal) {
         _ => 0,
     };
     if line == 0 {
-        owl_faults::place(owl_layouts::line_of(text, b"target", to));
+        faults::place(owl_layouts::line_of(text, b"target", to));
     } else {
-        owl_faults::place(line);
+        faults::place(line);
     }
     refusals::refused(STDERR_FILENO, r);
 }
 
-fn no_target(source: &Block, k: u8) {
-    owl_faults::of_file(b": no target record is selected for the source's '");
-    owl_say::complain(pack::name_of(Holder::Record, source, k));
+fn no_target(room: &Room, s: State) {
+    faults::of_file(b": no target record is selected for the source's '");
+    owl_say::complain(pack::name_of(Holder::Record, source(room, s), s.source));
     owl_say::complain(b"';\n  expected one of its rtype, or a line 'plan SOURCE TARGET'\n");
 }
 
 // The target record that the text names, or the one that is selected.
-fn chosen(cat: &Catalogue, source: &Block, target: &Block, s: State) -> Selected {
+fn chosen(room: &Room, s: State) -> Selected {
     if s.chosen {
         return Selected::Record(lent::wide8(s.target));
     }
-    let from = lent::part(source, 0, s.source_end);
-    let to = lent::part(target, 0, s.target_end);
-    planning::select(cat, from, lent::wide8(s.source), to, s.wanted, s.schema)
+    planning::select(
+        room::catalogue(room),
+        source(room, s),
+        lent::wide8(s.source),
+        target(room, s),
+        s.wanted,
+        s.schema,
+    )
 }
 
 // ---- the plan
 
-// The bytes behind the header, of a record of this size.
-fn body(bodies: &Bodies, to: u8, header: usize, size: usize) -> &[u8] {
-    let from = limits::MAX_BYTES * lent::wide8(to);
+// The default bytes behind the header, of a target record of this size.
+fn body(room: &Room, to: u8, header: usize, size: usize) -> &[u8] {
+    let from = room::BODIES_AT + limits::MAX_BYTES * lent::wide8(to);
     if header <= size {
         if size <= limits::MAX_BYTES {
-            return lent::part(bodies, from + header, size - header);
+            return lent::part(room, from + header, size - header);
         }
     }
-    lent::part(bodies, 0, 0)
+    lent::part(room, 0, 0)
 }
 
-fn planned(
-    text: &[u8],
-    cat: &Catalogue,
-    source: &Block,
-    target: &Block,
-    bodies: &Bodies,
-    marks: &Marks,
-    s: State,
-    to: u8,
-    slot: &mut Slot,
-) -> bool {
-    let from = lent::part(source, 0, s.source_end);
-    let into = lent::part(target, 0, s.target_end);
+fn marks(room: &Room, to: u8) -> &[u8] {
+    let from = room::MARKS_AT + limits::MAX_FIELDS * lent::wide8(to);
+    lent::part(room, from, limits::MAX_FIELDS)
+}
+
+fn planned(room: &Room, s: State, to: u8, slot: &mut Slot) -> Planned {
+    let cat = room::catalogue(room);
+    let into = target(room, s);
     let number = lent::wide8(to);
     let size = match tuppenceowl::record_size(cat, into, number) {
         Sized::Bytes(n) => n,
         _ => 0,
     };
-    let marked = lent::part(marks, limits::MAX_FIELDS * number, limits::MAX_FIELDS);
-    let laid = body(bodies, to, s.header, size);
-    match planning::plan(
+    planning::plan(
         cat,
-        from,
+        source(room, s),
         lent::wide8(s.source),
         into,
         number,
         s.header,
-        laid,
-        marked,
+        body(room, to, s.header, size),
+        marks(room, to),
         slot,
-    ) {
+    )
+}
+
+fn plan_to(text: &[u8], room: &Room, s: State, to: u8, slot: &mut Slot) -> bool {
+    match planned(room, s, to, slot) {
         Planned::Made => return true,
-        Planned::NoRecord => owl_faults::of_file(
+        Planned::NoRecord => faults::of_file(
             b": a record is missing; expected a source and a target\n",
         ),
         Planned::Refused(r) => refused(text, s, to, r),
@@ -111,32 +122,11 @@ fn planned(
 }
 
 // Whether a plan stands in the slot; if not, it was said why.
-fn plan(
-    text: &[u8],
-    cat: &Catalogue,
-    source: &Block,
-    target: &Block,
-    bodies: &Bodies,
-    marks: &Marks,
-    s: State,
-    slot: &mut Slot,
-) -> bool {
-    match chosen(cat, source, target, s) {
-        Selected::Record(to) => {
-            return planned(
-                text,
-                cat,
-                source,
-                target,
-                bodies,
-                marks,
-                s,
-                (to % 256) as u8,
-                slot,
-            );
-        }
-        Selected::Unplanned => no_target(source, s.source),
-        Selected::NoRecord => owl_faults::of_file(
+fn plan(text: &[u8], room: &Room, s: State, slot: &mut Slot) -> bool {
+    match chosen(room, s) {
+        Selected::Record(to) => return plan_to(text, room, s, (to % 256) as u8, slot),
+        Selected::Unplanned => no_target(room, s),
+        Selected::NoRecord => faults::of_file(
             b": no source record; expected a line 'source NAME RTYPE SCHEMA'\n",
         ),
         Selected::Refused(r) => refused(text, s, 0, r),
@@ -157,22 +147,19 @@ pub fn say_plan(slot: &Slot) {
 fn say_hash(fp: u64, visits: usize) {
     owl_say::out(b"hash ");
     io::print_hex(STDOUT_FILENO, fp, 16);
-    owl_say::out(b" visits ");
-    owl_say::number(STDOUT_FILENO, visits);
-    owl_say::out(b"\n");
+    form::say(STDOUT_FILENO, b" visits #\n", form::one(visits));
 }
 
-fn say_record(side: &[u8], l: &Block, k: u8) {
+fn say_record(side: &[u8], l: &[u8], k: u8) {
     owl_say::out(side);
     owl_say::out(pack::name_of(Holder::Record, l, k));
-    owl_say::out(b" rtype ");
-    owl_say::number(STDOUT_FILENO, lent::wide16(pack::rtype_of(l, k)));
-    owl_say::out(b" ");
+    let rtype = lent::wide16(pack::rtype_of(l, k));
+    form::say(STDOUT_FILENO, b" rtype # ", form::one(rtype));
 }
 
 // Whether there is a record k.
-fn hashed(side: &[u8], cat: &Catalogue, l: &Block, end: usize, k: u8) -> bool {
-    match hashing::layout_hash(cat, lent::part(l, 0, end), lent::wide8(k)) {
+fn hashed(side: &[u8], cat: &[u8], l: &[u8], k: u8) -> bool {
+    match hashing::layout_hash(cat, l, lent::wide8(k)) {
         Summed::Hash(fp, visits) => {
             say_record(side, l, k);
             say_hash(fp, visits);
@@ -186,10 +173,10 @@ fn hashed(side: &[u8], cat: &Catalogue, l: &Block, end: usize, k: u8) -> bool {
     true
 }
 
-fn hashes(side: &[u8], cat: &Catalogue, l: &Block, end: usize) {
+fn hashes(side: &[u8], cat: &[u8], l: &[u8]) {
     let mut k: u8 = 0;
     while k < RECORDS {
-        if !hashed(side, cat, l, end, k) {
+        if !hashed(side, cat, l, k) {
             return;
         }
         k += 1;
@@ -200,47 +187,23 @@ fn hashes(side: &[u8], cat: &Catalogue, l: &Block, end: usize) {
 
 // Whether its plan stands in the slot; if not, it was said why.
 pub fn plan_of(text: &[u8], slot: &mut Slot) -> bool {
-    let mut cat = [0u8; room::CATALOGUE];
-    let mut source = [0u8; room::BLOCK];
-    let mut target = [0u8; room::BLOCK];
-    let mut bodies = [0u8; room::BODIES];
-    let mut marks = [0u8; room::MARKS];
-    let took = owl_layouts::read(
-        text,
-        &mut cat,
-        &mut source,
-        &mut target,
-        &mut bodies,
-        &mut marks,
-    );
-    match took {
-        Took::Next(s) => plan(text, &cat, &source, &target, &bodies, &marks, s, slot),
+    let mut room = [0u8; room::SIZE];
+    match owl_layouts::read(text, &mut room) {
+        Took::Next(s) => plan(text, &room, s, slot),
         Took::Bad(f) => {
-            owl_faults::fault(text, f);
+            faults::say(text, f);
             false
         }
     }
 }
 
 pub fn say_hashes(text: &[u8]) {
-    let mut cat = [0u8; room::CATALOGUE];
-    let mut source = [0u8; room::BLOCK];
-    let mut target = [0u8; room::BLOCK];
-    let mut bodies = [0u8; room::BODIES];
-    let mut marks = [0u8; room::MARKS];
-    let took = owl_layouts::read(
-        text,
-        &mut cat,
-        &mut source,
-        &mut target,
-        &mut bodies,
-        &mut marks,
-    );
-    match took {
+    let mut room = [0u8; room::SIZE];
+    match owl_layouts::read(text, &mut room) {
         Took::Next(s) => {
-            hashes(b"source ", &cat, &source, s.source_end);
-            hashes(b"target ", &cat, &target, s.target_end);
+            hashes(b"source ", room::catalogue(&room), source(&room, s));
+            hashes(b"target ", room::catalogue(&room), target(&room, s));
         }
-        Took::Bad(f) => owl_faults::fault(text, f),
+        Took::Bad(f) => faults::say(text, f),
     }
 }

@@ -1,10 +1,13 @@
 // A plan drawn for a terminal of 80 columns: a row for each run of target bytes, and a strip with a letter for each byte. The slot holds a
 // plan that keeps every rule, so its steps stand in target order and apart.
-pub mod line;
 pub mod numbers;
 pub mod strip;
 
+use caseline::put;
+use libc::STDOUT_FILENO;
 use numbers::Slot;
+use numbers::Step;
+use owl_say::form;
 
 // Most bytes of a default that a row shows.
 const SHOWN: usize = 16;
@@ -12,34 +15,42 @@ const SHOWN: usize = 16;
 // ---- what the plan is
 
 pub fn summary(slot: &Slot) {
-    let mut out = [0u8; 128];
-    let title = line::count(&mut out, 0, b"plan of ", lent::wide8(numbers::steps(slot)));
-    line::say(&mut out, title, b" steps\n");
-    let from = line::count(&mut out, 0, b"  source  rtype ", numbers::number(slot, 0));
-    let base = line::count(&mut out, from, b", base ", numbers::number(slot, 4));
-    line::say(&mut out, base, b" bytes\n");
-    let to = line::count(&mut out, 0, b"  target  rtype ", numbers::number(slot, 2));
-    let its_base = line::count(&mut out, to, b", base ", numbers::number(slot, 8));
-    let header = line::count(
-        &mut out,
-        its_base,
-        b" bytes, header ",
-        numbers::header(slot),
+    form::say(
+        STDOUT_FILENO,
+        b"plan of # steps\n",
+        form::one(lent::wide8(numbers::steps(slot))),
     );
-    let size = line::count(&mut out, header, b", record ", numbers::size(slot));
-    line::say(&mut out, size, b" bytes\n");
+    form::say(
+        STDOUT_FILENO,
+        b"  source  rtype #, base # bytes\n",
+        form::two(numbers::number(slot, 0), numbers::number(slot, 4)),
+    );
+    let rtype = numbers::number(slot, 2);
+    let base = numbers::number(slot, 8);
+    form::say(
+        STDOUT_FILENO,
+        b"  target  rtype #, base # bytes, header #, record # bytes\n",
+        form::four(rtype, base, numbers::header(slot), numbers::size(slot)),
+    );
 }
 
 // ---- a row for each run of target bytes
 
 fn header_row(slot: &Slot) {
     let n = numbers::header(slot);
-    if n == 0 {
-        return;
+    if n != 0 {
+        form::say(
+            STDOUT_FILENO,
+            b">..<  H  header, left as the host has it\n",
+            form::two(0, n),
+        );
     }
-    let mut out = [0u8; 128];
-    let end = line::range(&mut out, 0, 0, n);
-    line::say(&mut out, end, b"  H  header, left as the host has it\n");
+}
+
+fn say_bytes(bytes: &[u8]) {
+    let mut out = [0u8; 2 * SHOWN];
+    let end = put::octets(&mut out, 0, bytes);
+    owl_say::out(lent::part(&out, 0, end));
 }
 
 // What no step reaches.
@@ -47,65 +58,45 @@ fn default_row(slot: &Slot, from: usize, to: usize) {
     if to <= from {
         return;
     }
-    let mut out = [0u8; 128];
-    let range = line::range(&mut out, 0, from, to);
-    let word = line::text(&mut out, range, b"  .  default ");
-    let shown = lent::lesser(to - from, SHOWN);
-    let end = line::octets(&mut out, word, numbers::body(slot, from, shown));
+    form::say(STDOUT_FILENO, b">..<  .  default ", form::two(from, to));
+    say_bytes(numbers::body(slot, from, lent::lesser(to - from, SHOWN)));
     if SHOWN < to - from {
-        line::say(&mut out, end, b"..\n");
-    } else {
-        line::say(&mut out, end, b"\n");
+        owl_say::out(b"..");
     }
+    owl_say::out(b"\n");
 }
 
-fn copy_row(slot: &Slot, k: u8) {
-    let mut out = [0u8; 128];
-    let at = numbers::target_of(slot, k);
-    let from = numbers::source_of(slot, k);
-    let n = numbers::source_size(slot, k);
-    let range = line::range(&mut out, 0, at, at + n);
-    let word = line::text(&mut out, range, b"  c  source ");
-    let source = line::range(&mut out, word, from, from + n);
-    let end = line::count(&mut out, source, b"  copy of ", n);
-    line::say(&mut out, end, b"\n");
+fn copy_row(s: Step) {
+    let ranges = form::four(s.to, s.to_end, s.from, s.from_end);
+    form::say(STDOUT_FILENO, b">..<  c  source >..<", ranges);
+    form::say(STDOUT_FILENO, b"  copy of #\n", form::one(s.size));
 }
 
-fn integer_row(slot: &Slot, k: u8) {
-    let mut out = [0u8; 128];
-    let at = numbers::target_of(slot, k);
-    let from = numbers::source_of(slot, k);
-    let n = numbers::source_size(slot, k);
-    let wide = numbers::target_size(slot, k);
-    let range = line::range(&mut out, 0, at, at + wide);
-    let word = line::text(&mut out, range, b"  i  source ");
-    let source = line::range(&mut out, word, from, from + n);
-    let sign = if numbers::is_signed(slot, k) {
-        b'i'
+fn integer_row(s: Step) {
+    let ranges = form::four(s.to, s.to_end, s.from, s.from_end);
+    form::say(STDOUT_FILENO, b">..<  i  source >..<", ranges);
+    let bits = form::two(8 * (s.size % 16), 8 * (s.wide % 16));
+    if s.signed {
+        form::say(STDOUT_FILENO, b"  i# to i#", bits);
     } else {
-        b'u'
-    };
-    let first = line::text(&mut out, source, b"  ");
-    let narrow = line::integer(&mut out, first, sign, n);
-    let arrow = line::text(&mut out, narrow, b" to ");
-    let end = line::integer(&mut out, arrow, sign, wide);
-    if numbers::is_marked(slot, k) {
-        line::say(&mut out, end, b", marked\n");
-    } else {
-        line::say(&mut out, end, b"\n");
+        form::say(STDOUT_FILENO, b"  u# to u#", bits);
     }
+    if s.marked {
+        owl_say::out(b", marked");
+    }
+    owl_say::out(b"\n");
 }
 
 // The step's row, and before it that of the bytes between; the answer is where the step ends.
 fn step_rows(slot: &Slot, k: u8, at: usize) -> usize {
-    let to = numbers::target_of(slot, k);
-    default_row(slot, at, to);
-    if numbers::is_integer(slot, k) {
-        integer_row(slot, k);
+    let s = numbers::step_of(slot, k);
+    default_row(slot, at, s.to);
+    if s.integer {
+        integer_row(s);
     } else {
-        copy_row(slot, k);
+        copy_row(s);
     }
-    to + numbers::target_size(slot, k)
+    s.to_end
 }
 
 fn rows(slot: &Slot) {
@@ -121,9 +112,9 @@ fn rows(slot: &Slot) {
 
 pub fn draw(slot: &Slot) {
     summary(slot);
-    line::out(b"\n  target bytes   what they are\n");
+    owl_say::out(b"\n  target bytes   what they are\n");
     header_row(slot);
     rows(slot);
-    line::out(b"\n");
+    owl_say::out(b"\n");
     strip::draw(slot);
 }

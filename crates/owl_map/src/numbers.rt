@@ -40,49 +40,39 @@ pub fn body(slot: &Slot, from: usize, n: usize) -> &[u8] {
     lent::part(slot, slot::BODY_FROM + (from - first), n)
 }
 
-// ---- step k
+// ---- a step
 
-fn step_at(k: u8) -> usize
-    ensures { λ r. ⌜ r ≤ 4096 ⌝ }
-{
-    slot::STEPS_FROM + step::packed::SIZE * lent::wide8(k)
+pub struct Step {
+    pub integer: bool,
+    pub signed: bool,
+    pub marked: bool,
+    // The source's bytes and the target's.
+    pub from: usize,
+    pub from_end: usize,
+    pub to: usize,
+    pub to_end: usize,
+    // How many they are.
+    pub size: usize,
+    pub wide: usize,
 }
 
-pub fn is_integer(slot: &Slot, k: u8) -> bool {
-    lent::byte_at(slot, step_at(k)) != 0
-}
-
-pub fn is_signed(slot: &Slot, k: u8) -> bool {
-    lent::byte_at(slot, step_at(k) + 1) != 0
-}
-
-pub fn is_marked(slot: &Slot, k: u8) -> bool {
-    lent::byte_at(slot, step_at(k) + 2) != 0
-}
-
-pub fn source_of(slot: &Slot, k: u8) -> usize
-    ensures { λ r. ⌜ r < 65536 ⌝ }
-{
-    number(slot, step_at(k) + 4)
-}
-
-pub fn target_of(slot: &Slot, k: u8) -> usize
-    ensures { λ r. ⌜ r < 65536 ⌝ }
-{
-    number(slot, step_at(k) + 6)
-}
-
-pub fn source_size(slot: &Slot, k: u8) -> usize
-    ensures { λ r. ⌜ r < 65536 ⌝ }
-{
-    number(slot, step_at(k) + 8)
-}
-
-pub fn target_size(slot: &Slot, k: u8) -> usize
-    ensures { λ r. ⌜ r < 65536 ⌝ }
-{
-    if is_integer(slot, k) {
-        return number(slot, step_at(k) + 10);
+pub fn step_of(slot: &Slot, k: u8) -> Step {
+    let at = slot::STEPS_FROM + step::packed::SIZE * lent::wide8(k);
+    let integer = lent::byte_at(slot, at) != 0;
+    let from = number(slot, at + 4);
+    let to = number(slot, at + 6);
+    let size = number(slot, at + 8);
+    // A copy has one size, an integer a second behind it.
+    let wide = number(slot, at + 8 + 2 * lent::wide8(lent::one(integer)));
+    Step {
+        integer,
+        signed: lent::byte_at(slot, at + 1) != 0,
+        marked: lent::byte_at(slot, at + 2) != 0,
+        from,
+        from_end: from + size,
+        to,
+        to_end: to + wide,
+        size,
+        wide,
     }
-    source_size(slot, k)
 }

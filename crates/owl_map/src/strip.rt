@@ -1,9 +1,10 @@
 // The strip: a letter for each byte of the target record, 64 in a row.
-use crate::line;
-use crate::line::Line;
 use crate::numbers;
 use crate::numbers::Slot;
+use crate::numbers::Step;
 use caseline::put;
+use libc::STDOUT_FILENO;
+use owl_say::form;
 
 pub type Cells = [u8; limits::MAX_BYTES];
 
@@ -21,36 +22,34 @@ fn fill(cells: &mut Cells, from: usize, to: usize, letter: u8) {
 }
 
 // A capital where the step begins.
-fn fill_step(slot: &Slot, k: u8, cells: &mut Cells) {
-    let at = numbers::target_of(slot, k);
-    let end = at + numbers::target_size(slot, k);
-    if numbers::is_integer(slot, k) {
-        fill(cells, at, end, b'i');
-        put::byte(cells, at, b'I');
-    } else {
-        fill(cells, at, end, b'c');
-        put::byte(cells, at, b'C');
-    }
+fn fill_step(cells: &mut Cells, s: Step) {
+    fill(cells, s.to, s.to_end, if s.integer { b'i' } else { b'c' });
+    put::byte(cells, s.to, if s.integer { b'I' } else { b'C' });
 }
 
 fn fill_steps(slot: &Slot, cells: &mut Cells) {
     let n = numbers::steps(slot);
     let mut k: u8 = 0;
     while k < n {
-        fill_step(slot, k, cells);
+        fill_step(cells, numbers::step_of(slot, k));
         k += 1;
     }
 }
 
-// n letters from `from` on, in groups.
-fn put_letters(cells: &Cells, from: usize, n: usize, out: &mut Line, at: usize) -> usize {
-    let mut end = at;
-    let mut i: usize = 0;
-    while i < n {
-        if i % GROUP == 0 {
-            end = put::byte(out, end, b' ');
-        }
-        end = put::byte(out, end, lent::byte_at(lent::part(cells, from, n), i));
+// Letter i, behind a blank where a group begins.
+fn put_letter(out: &mut [u8], at: usize, i: usize, letter: u8) -> usize {
+    if i % GROUP == 0 {
+        let end = put::byte(out, at, b' ');
+        return put::byte(out, end, letter);
+    }
+    put::byte(out, at, letter)
+}
+
+fn put_letters(letters: &[u8], out: &mut [u8]) -> usize {
+    let mut end = 0;
+    let mut i = 0;
+    while i < letters.len() {
+        end = put_letter(out, end, i, letters[i]);
         i += 1;
     }
     end
@@ -58,9 +57,10 @@ fn put_letters(cells: &Cells, from: usize, n: usize, out: &mut Line, at: usize) 
 
 fn say_row(cells: &Cells, from: usize, n: usize) {
     let mut out = [0u8; 128];
-    let at = line::right(&mut out, 0, from);
-    let end = put_letters(cells, from, n, &mut out, at);
-    line::say(&mut out, end, b"\n");
+    let end = put_letters(lent::part(cells, from, n), &mut out);
+    let whole = put::byte(&mut out, end, b'\n');
+    form::say(STDOUT_FILENO, b">", form::one(from));
+    owl_say::out(lent::part(&out, 0, whole));
 }
 
 fn say_rows(cells: &Cells, size: usize) {
@@ -79,5 +79,5 @@ pub fn draw(slot: &Slot) {
     fill(&mut cells, 0, numbers::header(slot), b'H');
     fill_steps(slot, &mut cells);
     say_rows(&cells, numbers::size(slot));
-    line::out(b"\n  H header   C copied   I integer   . default; a capital begins a step\n");
+    owl_say::out(b"\n  H header   C copied   I integer   . default; a capital begins a step\n");
 }

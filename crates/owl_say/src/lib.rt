@@ -1,5 +1,6 @@
 // What is written: results to standard output, messages to standard error.
 pub mod files;
+pub mod form;
 pub mod refusals;
 
 use libc::STDERR_FILENO;
@@ -15,8 +16,4 @@ pub fn out(text: &[u8]) {
 
 pub fn complain(text: &[u8]) {
     io::write_all(STDERR_FILENO, text);
-}
-
-pub fn number(fd: i32, n: usize) {
-    io::print_decimal(fd, n as u64);
 }

@@ -4,9 +4,15 @@ use caseline::put;
 use dispatch::Upgraded;
 use input::Room;
 use libc::STDOUT_FILENO;
-use owl_map::numbers;
-use owl_map::numbers::Slot;
+use owl_say::form;
 use owl_say::refusals;
+
+pub type Slot = [u8; slot::SIZE];
+
+// Places of the slot (docs/FORMATS.md): the source's rtype, the target's header.
+const RTYPE_AT: usize = 0;
+
+const HEADER_AT: usize = 6;
 
 const NEWLINE: u8 = b'\n';
 
@@ -24,28 +30,23 @@ enum Step {
 // 'b' and the bytes behind the header.
 fn say_body(target: &[u8], header: usize, size: usize) {
     let mut out = [0u8; LONGEST];
-    let word = put::text(&mut out, 0, b"b");
+    let first = put::byte(&mut out, 0, b'b');
     if header <= size {
-        let end = put::octets(&mut out, word, lent::part(target, header, size - header));
+        let end = put::octets(&mut out, first, lent::part(target, header, size - header));
         let whole = put::byte(&mut out, end, NEWLINE);
         owl_say::out(lent::part(&out, 0, whole));
     }
 }
 
-fn in_two_bytes(n: usize) -> u16 {
-    (n % 65536) as u16
-}
-
 // By the plan in the slot, as a record of its rtype.
 pub fn upgrade(slot: &Slot, source_header: usize, record: &[u8]) {
     let mut target = [0u8; limits::MAX_BYTES];
-    let rtype = in_two_bytes(numbers::number(slot, 0));
-    let header = numbers::header(slot);
+    let header = lent::wide16(lent::u16_at(slot, HEADER_AT));
     let ids = [0u16; 1];
     let answer = dispatch::upgrade(
         slot,
         &ids[0..0],
-        rtype,
+        lent::u16_at(slot, RTYPE_AT),
         source_header,
         header,
         record,
@@ -61,26 +62,28 @@ pub fn upgrade(slot: &Slot, source_header: usize, record: &[u8]) {
 // ---- one line
 
 fn say_fault(number: usize) {
-    owl_say::out(b"? line ");
-    owl_say::number(STDOUT_FILENO, number);
-    owl_say::out(
-        b": not a record; expected its bytes in hex, two of 0-9 a-f each, and nothing else\n",
+    form::say(
+        STDOUT_FILENO,
+        b"? line #: not a record; expected its bytes in hex, two of 0-9 a-f each, and nothing else\n",
+        form::one(number),
     );
+}
+
+fn on_word(slot: &Slot, source_header: usize, word: &[u8], number: usize) {
+    let mut bytes = [0u8; input::ROOM_SIZE / 2];
+    match caseline::hex(word, &mut bytes) {
+        Parsed::Is(n) => upgrade(slot, source_header, lent::part(&bytes, 0, n)),
+        Parsed::Malformed => say_fault(number),
+    }
 }
 
 // An empty line or a comment is passed over.
 pub fn on_line(slot: &Slot, source_header: usize, line: &[u8], number: usize) {
     let content = owl_words::content(line);
-    if owl_words::words(content) == 0 {
-        return;
-    }
-    let mut bytes = [0u8; input::ROOM_SIZE / 2];
-    if owl_words::words(content) != 1 {
-        return say_fault(number);
-    }
-    match caseline::hex(owl_words::word(content, 0), &mut bytes) {
-        Parsed::Is(n) => upgrade(slot, source_header, lent::part(&bytes, 0, n)),
-        Parsed::Malformed => say_fault(number),
+    match owl_words::words(content) {
+        0 => return,
+        1 => on_word(slot, source_header, owl_words::word(content, 0), number),
+        _ => say_fault(number),
     }
 }
 

@@ -90,7 +90,15 @@ pub fn words(line: &[u8]) -> usize {
     n
 }
 
-// Is word k this one?
-pub fn is(line: &[u8], k: usize, text: &[u8]) -> bool {
-    lent::same(word(line, k), text)
+// Which word of the list this one is, or how many the list has.
+pub fn which(list: &[u8], name: &[u8]) -> usize {
+    let n = words(list);
+    let mut k: usize = 0;
+    while k < n {
+        if lent::same(word(list, k), name) {
+            return k;
+        }
+        k += 1;
+    }
+    n
 }

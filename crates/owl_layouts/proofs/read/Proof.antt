@@ -7,10 +7,10 @@ use Rattle.owl_layouts.proofs.read.Statement.{statement}
 use Rattle.owl_layouts.proofs.read.Tie as tie
 
 abbrev Inv-loop : tie.InvT-loop
-Inv-loop text cat₀ source₀ target₀ bodies₀ marks₀ rows₀ slots₀ s₀ at₀ cat source target bodies marks rows slots s at = at ≤ length text + 1
+Inv-loop text room₀ s₀ at₀ room s at = at ≤ length text + 1
 
 abbrev μ-loop : tie.MeasureT-loop
-μ-loop text cat₀ source₀ target₀ bodies₀ marks₀ rows₀ slots₀ s₀ at₀ cat source target bodies marks rows slots s at = length text + 1 - at
+μ-loop text room₀ s₀ at₀ room s at = length text + 1 - at
 
 begun-requires : tie.Need-begun-requires Inv-loop μ-loop
 begun-requires c κs = search needs
@@ -24,17 +24,14 @@ find-requires c κs = search needs
 add-next-at : tie.Need-add-next-at Inv-loop μ-loop
 add-next-at c = search needs
 
-sub-content : tie.Need-sub-content Inv-loop μ-loop
-sub-content c = search needs
+sub-take : tie.Need-sub-take Inv-loop μ-loop
+sub-take c = search needs
 
-part-content-start : tie.Need-part-content-start Inv-loop μ-loop
-part-content-start c = search needs
+part-take-start : tie.Need-part-take-start Inv-loop μ-loop
+part-take-start c = search needs
 
-part-content-end : tie.Need-part-content-end Inv-loop μ-loop
-part-content-end c = search needs
-
-content-requires : tie.Need-content-requires Inv-loop μ-loop
-content-requires c κs = search needs
+part-take-end : tie.Need-part-take-end Inv-loop μ-loop
+part-take-end c = search needs
 
 at-line-requires : tie.Need-at-line-requires Inv-loop μ-loop
 at-line-requires c κs = search needs
@@ -52,12 +49,10 @@ returns : tie.Need-returns Inv-loop μ-loop
 returns c = search needs
 
 loop-less : tie.Need-loop-less Inv-loop μ-loop
-loop-less c =
-    omega (arith, c .before .before .before .before .before .before .before .before .before .before .before .before .before .before .find .ensures)
+loop-less c = omega (arith, c .before .before .before .before .before .before .before .find .ensures)
 
 loop-again : tie.Need-loop-again Inv-loop μ-loop
-loop-again c =
-    omega (arith, c .before .before .before .before .before .before .before .before .before .before .before .before .before .before .find .ensures)
+loop-again c = omega (arith, c .before .before .before .before .before .before .before .find .ensures)
 
 close-requires : tie.Need-close-requires Inv-loop μ-loop
 close-requires c κs = search needs
@@ -75,10 +70,9 @@ read-spec =
     loop-holds
     find-requires
     add-next-at
-    sub-content
-    part-content-start
-    part-content-end
-    content-requires
+    sub-take
+    part-take-start
+    part-take-end
     at-line-requires
     take-requires
     enum-known-next

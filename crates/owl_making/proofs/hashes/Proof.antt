@@ -5,10 +5,10 @@ use Rattle.owl_making.proofs.hashes.Statement.{statement}
 use Rattle.owl_making.proofs.hashes.Tie as tie
 
 abbrev Inv-loop : tie.InvT-loop
-Inv-loop side cat l end k₀ k = k ≤ 16
+Inv-loop side cat l k₀ k = k ≤ 16
 
 abbrev μ-loop : tie.MeasureT-loop
-μ-loop side cat l end k₀ k = 16 - k
+μ-loop side cat l k₀ k = 16 - k
 
 loop-holds : tie.Need-loop-holds Inv-loop μ-loop
 loop-holds c = search needs

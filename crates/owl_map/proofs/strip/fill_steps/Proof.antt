@@ -16,6 +16,9 @@ steps-requires c κs = search needs
 loop-holds : tie.Need-loop-holds Inv-loop μ-loop
 loop-holds c = search needs
 
+step-of-requires : tie.Need-step-of-requires Inv-loop μ-loop
+step-of-requires c κs = search needs
+
 fill-step-requires : tie.Need-fill-step-requires Inv-loop μ-loop
 fill-step-requires c κs = search needs
 
@@ -39,6 +42,7 @@ fill-steps-spec =
     μ-loop
     steps-requires
     loop-holds
+    step-of-requires
     fill-step-requires
     add-k
     loop-less

@@ -1,29 +1,25 @@
--- A turn for each letter.
+-- The row is as long as it was.
 use Prim.Native.Nat.{_-_, _≤_}
+use mathlib.Core.Path.{_≡_}
 use borrow.Author.Needs.{needs}
+use lib.ListN.{length}
 use Rattle.owl_map.proofs.strip.put_letters.Statement.{statement}
 use Rattle.owl_map.proofs.strip.put_letters.Tie as tie
 
 abbrev Inv-loop : tie.InvT-loop
-Inv-loop cells from n out₀ at end₀ i₀ out end i = i ≤ n
+Inv-loop letters out₀ end₀ i₀ out end i = (i ≤ length letters) × (length out ≡ length out₀)
 
 abbrev μ-loop : tie.MeasureT-loop
-μ-loop cells from n out₀ at end₀ i₀ out end i = n - i
+μ-loop letters out₀ end₀ i₀ out end i = length letters - i
 
 loop-holds : tie.Need-loop-holds Inv-loop μ-loop
 loop-holds c = search needs
 
-byte-requires : tie.Need-byte-requires Inv-loop μ-loop
-byte-requires c κs = search needs
+shared-slice-read-put-letter : tie.Need-shared-slice-read-put-letter Inv-loop μ-loop
+shared-slice-read-put-letter c = search needs
 
-part-requires : tie.Need-part-requires Inv-loop μ-loop
-part-requires c κs = search needs
-
-byte-at-requires : tie.Need-byte-at-requires Inv-loop μ-loop
-byte-at-requires c κs = search needs
-
-byte-requires-2 : tie.Need-byte-requires-2 Inv-loop μ-loop
-byte-requires-2 c κs = search needs
+put-letter-requires : tie.Need-put-letter-requires Inv-loop μ-loop
+put-letter-requires c κs = search needs
 
 add-i : tie.Need-add-i Inv-loop μ-loop
 add-i c = search needs
@@ -33,6 +29,9 @@ loop-less c = search needs
 
 loop-again : tie.Need-loop-again Inv-loop μ-loop
 loop-again c = search needs
+
+same-length : tie.Need-same-length Inv-loop μ-loop
+same-length c = search needs
 
 returns : tie.Need-returns Inv-loop μ-loop
 returns c = search needs
@@ -44,11 +43,10 @@ put-letters-spec =
     Inv-loop
     μ-loop
     loop-holds
-    byte-requires
-    part-requires
-    byte-at-requires
-    byte-requires-2
+    shared-slice-read-put-letter
+    put-letter-requires
     add-i
     loop-less
     loop-again
+    same-length
     returns)

@@ -1,26 +1,26 @@
--- A turn for each name.
+-- A turn for each word of the list.
 use Prim.Native.Nat.{_-_, _≤_}
 use borrow.Author.Needs.{needs}
-use Rattle.owl_fields.proofs.pack.named.Statement.{statement}
-use Rattle.owl_fields.proofs.pack.named.Tie as tie
+use Rattle.owl_words.proofs.which.Statement.{statement}
+use Rattle.owl_words.proofs.which.Tie as tie
 
 abbrev Inv-loop : tie.InvT-loop
-Inv-loop holder l n name k₀ k = k ≤ n
+Inv-loop list name n k₀ k = k ≤ n
 
 abbrev μ-loop : tie.MeasureT-loop
-μ-loop holder l n name k₀ k = n - k
+μ-loop list name n k₀ k = n - k
+
+words-requires : tie.Need-words-requires Inv-loop μ-loop
+words-requires c κs = search needs
 
 loop-holds : tie.Need-loop-holds Inv-loop μ-loop
 loop-holds c = search needs
 
-name-of-requires : tie.Need-name-of-requires Inv-loop μ-loop
-name-of-requires c κs = search needs
+word-requires : tie.Need-word-requires Inv-loop μ-loop
+word-requires c κs = search needs
 
 same-requires : tie.Need-same-requires Inv-loop μ-loop
 same-requires c κs = search needs
-
-wide8-requires : tie.Need-wide8-requires Inv-loop μ-loop
-wide8-requires c κs = search needs
 
 returns : tie.Need-returns Inv-loop μ-loop
 returns c = search needs
@@ -37,16 +37,16 @@ loop-again c = search needs
 returns-2 : tie.Need-returns-2 Inv-loop μ-loop
 returns-2 c = search needs
 
-pub named-spec : {M : Type 1} → statement M
-named-spec =
+pub which-spec : {M : Type 1} → statement M
+which-spec =
     tie.close
     (tie.spec
     Inv-loop
     μ-loop
+    words-requires
     loop-holds
-    name-of-requires
+    word-requires
     same-requires
-    wide8-requires
     returns
     add-k
     loop-less

@@ -1,8 +1,9 @@
 // What is known between two lines: numbers, by value.
 use crate::fault::Fault;
-use crate::fault::Why;
 use builders::FieldCursor;
 use layout::block::Holder;
+use limits::refusal;
+use limits::refusal::Refusal;
 use tuppenceowl::building;
 
 // What the next field belongs to.
@@ -73,7 +74,7 @@ pub fn start(source_end: usize, target_end: usize) -> State {
     }
 }
 
-pub fn bad(s: State, word: usize, why: Why) -> Took {
+pub fn bad(s: State, word: usize, why: usize) -> Took {
     Took::Bad(Fault {
         line: s.line,
         from: s.from,
@@ -83,11 +84,16 @@ pub fn bad(s: State, word: usize, why: Why) -> Took {
 }
 
 // Of the record or struct that is open.
-pub fn bad_whole(s: State, why: Why) -> Took {
+pub fn bad_whole(s: State, why: usize) -> Took {
     Took::Bad(Fault {
         line: s.opened,
         from: s.opened_from,
         word: 1,
         why,
     })
+}
+
+// A public call's answer.
+pub fn number(r: Refusal) -> usize {
+    lent::wide8(refusal::number(r))
 }

@@ -1,0 +1,135 @@
+// The blocks of both layouts (docs/FORMATS.md), by side: the source's or the target's.
+ghost use Prim.Native.Nat.{_<_, _≤_};
+use crate::room;
+use crate::room::Room;
+use caseline::Parsed;
+use caseline::put;
+use layout::block;
+use layout::block::Holder;
+
+// Places of a record's head, and of a struct's.
+const BASE_AT: usize = 4;
+
+const TABLE_AT: usize = 16;
+
+const NAMES_AT: usize = 24;
+
+const NAME_AT: usize = 32;
+
+const STRUCT_TABLE_AT: usize = 4;
+
+const STRUCT_NAME_AT: usize = 12;
+
+// A number of four bytes, low byte first, or two of two bytes.
+fn four(room: &mut Room, at: usize, n: usize) {
+    let bytes = [
+        (n % 256) as u8,
+        (n / 256 % 256) as u8,
+        (n / 65536 % 256) as u8,
+        (n / 16777216 % 256) as u8,
+    ];
+    put::text(room, at, &bytes);
+}
+
+// ---- heads
+
+// Where the first table begins.
+pub fn put_counts(room: &mut Room, side: u8, records: u8, structs: u8) -> usize {
+    let many = lent::wide8(records);
+    let nested = lent::wide8(structs);
+    four(room, room::start(side), many + 65536 * nested);
+    block::record_head(0) + block::RECORD_HEAD * many + block::STRUCT_HEAD * nested
+}
+
+fn head(holder: Holder, l: &[u8], k: u8) -> usize
+    ensures { λ r. ⌜ r < 7864320 ⌝ }
+{
+    match holder {
+        Holder::Record => block::record_head(lent::wide8(k)),
+        Holder::Struct => block::struct_head(l, k as u16),
+    }
+}
+
+fn name_at(holder: Holder) -> usize
+    ensures { λ r. ⌜ r ≤ 32 ⌝ }
+{
+    match holder {
+        Holder::Record => NAME_AT,
+        Holder::Struct => STRUCT_NAME_AT,
+    }
+}
+
+pub fn put_name(holder: Holder, room: &mut Room, side: u8, k: u8, name: &[u8]) {
+    let at = room::start(side) + head(holder, room::block(room, side), k) + name_at(holder);
+    let behind = put::byte(room, at, (name.len() % 256) as u8);
+    put::text(room, behind, name);
+}
+
+pub fn name_of(holder: Holder, l: &[u8], k: u8) -> &[u8] {
+    let at = head(holder, l, k) + name_at(holder);
+    lent::part(l, at + 1, lent::wide8(lent::byte_at(l, at)))
+}
+
+pub fn rtype_of(l: &[u8], k: u8) -> u16 {
+    lent::u16_at(l, head(Holder::Record, l, k))
+}
+
+// Which of the first n has this name.
+pub fn named(holder: Holder, l: &[u8], n: u8, name: &[u8]) -> Parsed {
+    let mut k: u8 = 0;
+    while k < n {
+        if lent::same(name_of(holder, l, k), name) {
+            return Parsed::Is(lent::wide8(k));
+        }
+        k += 1;
+    }
+    Parsed::Malformed
+}
+
+pub fn open_record(room: &mut Room, side: u8, k: u8, rtype: u16, schema: u16, name: &[u8]) {
+    let at = room::start(side) + block::record_head(lent::wide8(k));
+    four(room, at, lent::wide16(rtype) + 65536 * lent::wide16(schema));
+    put_name(Holder::Record, room, side, k, name);
+}
+
+// ---- tables and names, stored from `end` on; the answer is where the block ends then
+
+fn put_part(room: &mut Room, side: u8, at: usize, end: usize, part: &[u8]) -> usize
+    requires { ⌜ at ≤ 8000000 ⌝ }
+{
+    let start = room::start(side);
+    let from = lent::lesser(end, room::BLOCK);
+    let n = lent::lesser(part.len(), room::BLOCK);
+    four(room, start + at, from);
+    four(room, start + at + 4, n);
+    put::text(room, start + from, part);
+    from + n
+}
+
+pub fn close_record(
+    room: &mut Room,
+    side: u8,
+    k: u8,
+    end: usize,
+    base: usize,
+    table: &[u8],
+    names: &[u8],
+) -> usize {
+    let at = block::record_head(lent::wide8(k));
+    four(room, room::start(side) + at + BASE_AT, base);
+    let next = put_part(room, side, at + TABLE_AT, end, table);
+    put_part(room, side, at + NAMES_AT, next, names)
+}
+
+pub fn close_struct(
+    room: &mut Room,
+    side: u8,
+    k: u8,
+    end: usize,
+    size: usize,
+    table: &[u8],
+) -> usize {
+    let at = head(Holder::Struct, room::block(room, side), k);
+    four(room, room::start(side) + at, size);
+    put_part(room, side, at + STRUCT_TABLE_AT, end, table)
+}
