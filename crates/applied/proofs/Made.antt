@@ -21,13 +21,13 @@ use Rattle.admission.proofs.When.{admitted}
 use Rattle.step.specs.declared.Step.{Step}
 use Rattle.slot.specs.Plan.{Plan, rtypesOk}
 use Rattle.slot.specs.Slot.{slotOf}
+use Rattle.slot.proofs.Unpacked.{plan-in}
 use Rattle.plan.specs.Rule.{wants}
 use Rattle.defaults.specs.Defaults.{headerOk, defaultsOk}
 use Rattle.planner.specs.Planner.{planBetween, unless, betweenOf, orPlanned, recordOf, plannedOf}
 use Rattle.planner.specs.declared.Planned.{Planned as Answer}
-use Rattle.planner.specs.declared.Planned.the-variants.{Made, NoRecord, Refused}
+use Rattle.planner.specs.declared.Planned.the-variants.{Made, NoRecord}
 use Rattle.planner.proofs.Passing.{header-fits, body-fits}
-use Rattle.plan_read.proofs.Unpacked.{plan-in}
 use Rattle.rule.specs.Recut.{same}
 use Rattle.demand.specs.Demand.{Bytes, Planned, withSteps}
 use Rattle.demand.proofs.Layouts.{planned-of-records}
