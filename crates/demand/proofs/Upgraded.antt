@@ -15,6 +15,7 @@ use Rattle.field.specs.Field.{fieldsOf}
 use Rattle.table.specs.Table.{apart}
 use Rattle.table.specs.declared.Rule.the-variants.{Bounds, Apart}
 use Rattle.layout.specs.Size.{lastEnd}
+use Rattle.admission.proofs.Records.{last-inside}
 use Rattle.step.specs.Step.{stepsOk}
 use Rattle.step.specs.declared.Step.{Step}
 use Rattle.slot.specs.Plan.{Plan, planOk}
@@ -30,7 +31,7 @@ use Rattle.rule.proofs.Stores.{length-bytewise, byte-bytewise, get, run-out, ru
 use Rattle.rule.proofs.Planned.{planned-byte}
 use Rattle.demand.specs.Demand.{Planned, Recuts}
 use Rattle.demand.proofs.Ascending.{planned-few, planned-steps-ok}
-use Rattle.demand.proofs.Tables.{fields-are, wants-length, all-admitted, all-placed, last-inside}
+use Rattle.demand.proofs.Tables.{fields-are, wants-length, all-admitted, all-placed}
 
 -- ---- steps that change each byte by a rule, on a target that a body was stored in
 

@@ -9,7 +9,7 @@ use lib.ListN.{length, drop, length-take, length-drop, List·getD-eq-default}
 use lib.Seq.{getD-take, getD-drop, length-take-le}
 use borrow.Author.Tests.{lt-ltb, eq-eqb, ne-eqb, leb-true, leb-false}
 use Rattle.limits.specs.Limits.{maxSteps}
-use Rattle.lent.specs.Bytes.{byteAt, numberAt, window}
+use Rattle.lent.specs.Bytes.{byteAt, Bytes, numberAt, window}
 use Rattle.lent.specs.Scan.{every}
 use Rattle.lent.proofs.Scan.{turn, none, gathered-length}
 use Rattle.step.specs.Step.{stepOk, within, endOf, stepsOk}
@@ -53,9 +53,6 @@ module _ (slot : List ℕ) (at left low high : ℕ) (all : Bool) (so : keeps slo
   keeps-ends e = rw (none (λ place. place) 16 at left e, none (stepAt slot) 16 at left e) at so
 
 -- ---- the whole slot
-
-abbrev Bytes : List ℕ → Type 0
-Bytes s = (i : ℕ) → byteAt s i < 256
 
 pub bytes-every : (xs : List ℕ) → Bytes xs → every isByte xs ≡ true
 unfolding every
