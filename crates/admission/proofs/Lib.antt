@@ -1,2 +1,3 @@
 pub mod When
 mod Tidy
+pub mod Records

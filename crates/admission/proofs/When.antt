@@ -9,22 +9,27 @@ use Rattle.lent.specs.Scan.{every}
 use Rattle.lent.proofs.Scan.{both}
 use Rattle.catalogue.specs.Catalogue.{catalogueOk}
 use Rattle.layout.specs.Shape.{shapeOk}
+use Rattle.table.specs.declared.Rule.{Rule}
 use Rattle.table.specs.declared.Rule.the-variants.{Reserved, Bounds, Apart, Width}
-use Rattle.admission.specs.Admission.{layoutOk, unless, admitTables, admitAll}
+use Rattle.admission.specs.Admission.{layoutOk, unless, admitAll}
 use Rattle.admission.specs.declared.Admitted.{Admitted}
-use Rattle.admission.specs.declared.Admitted.the-variants.{Fine, Refused}
+use Rattle.admission.specs.declared.Admitted.the-variants.{Fine}
 
 passed : (p : Bool) (refusal : Refusal) (rest : Admitted) → unless p refusal rest ≡ Fine → (p ≡ true) × (rest ≡ Fine)
 passed true refusal rest e = (refl, e)
 passed false refusal rest e = absurd (let z : _≡_ {A = ℕ} 0 1 = cc in omega arith)
 
+-- what holds of each rule holds of any
+pub by-rule : (P : Rule → Type 0) → P Reserved → P Bounds → P Apart → P Width → (rule : Rule) → P rule
+by-rule P a b c d Reserved = a
+by-rule P a b c d Bounds = b
+by-rule P a b c d Apart = c
+by-rule P a b c d Width = d
+
 pub record Passed (cat : List ℕ) (ls : List (List ℕ)) : Type 0 where
   pub valid : catalogueOk cat ≡ true
   pub shaped : every shapeOk ls ≡ true
-  pub reserved : every (layoutOk Reserved cat) ls ≡ true
-  pub bounds : every (layoutOk Bounds cat) ls ≡ true
-  pub apart : every (layoutOk Apart cat) ls ≡ true
-  pub width : every (layoutOk Width cat) ls ≡ true
+  pub rules : (rule : Rule) → every (layoutOk rule cat) ls ≡ true
 
 pub admitted : (cat : List ℕ) (ls : List (List ℕ)) → admitAll cat ls ≡ Fine → Passed cat ls
 unfolding admitAll
@@ -35,7 +40,8 @@ admitted cat ls e =
     let d = passed (every (layoutOk Bounds cat) ls) _ _ (c .1) in
     let f = passed (every (layoutOk Apart cat) ls) _ _ (d .1) in
     let g = passed (every (layoutOk Width cat) ls) _ _ (f .1) in
-    record { valid = a .0; shaped = b .0; reserved = c .0; bounds = d .0; apart = f .0; width = g .0 }
+    let rules : (rule : Rule) → every (layoutOk rule cat) ls ≡ true = by-rule (λ rule. every (layoutOk rule cat) ls ≡ true) (c .0) (d .0) (f .0) (g .0) in
+    record { valid = a .0; shaped = b .0; rules = rules }
 
 -- what all passed, the first passed, and the others
 module _ (test : List ℕ → Bool) (l : List ℕ) (ls : List (List ℕ)) (all : every test (l ∷ ls) ≡ true) where

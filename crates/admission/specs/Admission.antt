@@ -52,6 +52,11 @@ admitOf cat l = admitAll cat (l ∷ [])
 abbrev pub admitBoth : List ℕ → List ℕ → List ℕ → Admitted
 admitBoth cat a b = admitAll cat (a ∷ b ∷ [])
 
+-- the refusal of admission as an answer of another kind, else what follows
+abbrev pub orRefused : {A : Type 0} → (Refusal → A) → Admitted → A → A
+orRefused refused Fine rest = rest
+orRefused refused (Refused refusal) rest = refused refusal
+
 -- what the code is lent: both, or the first alone
 abbrev pub given : Bool → List ℕ → List ℕ → List (List ℕ)
 given both a b = cond both (a ∷ b ∷ []) (a ∷ [])

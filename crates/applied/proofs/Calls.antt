@@ -5,16 +5,16 @@ use mathlib.Core.Path.{_≡_, refl, sym, ap}
 use mathlib.Core.Bool.{Bool, true, false, cond, _||_, false≢true}
 use mathlib.Core.List.{List, _++_}
 use borrow.Author.Tests.{ltb-false}
-use lib.Dec.{ltb, eqb}
+use lib.Dec.{ltb}
 use lib.ListN.{length, take, drop}
 use lib.Seq.{length-take-le}
 use Rattle.limits.specs.Limits.{maxBytes, maxHeader}
 use Rattle.limits.specs.declared.refusal.Refusal.{Refusal}
 use Rattle.limits.specs.declared.refusal.Refusal.the-variants.{BadHeader, BadLength, NoRoom, BadPlan}
-use Rattle.lent.proofs.Scan.{both}
 use Rattle.field.specs.Field.{fieldsOf}
-use Rattle.slot.specs.Plan.{Plan, planOk}
-use Rattle.slot.specs.Slot.{slotSize, stepsFrom, countIn, sizeIn, planIn, allFlags, slotOk}
+use Rattle.slot.specs.Plan.{Plan}
+use Rattle.slot.specs.Slot.{sizeIn, planIn, slotOk}
+use Rattle.slot.proofs.Kept.{kept-slot}
 use Rattle.plan.specs.Rule.{wants}
 use Rattle.interpreter.specs.Run.{upgraded}
 use Rattle.dispatch.specs.Dispatch.{badLength, recordIn, plannedOf, appliedOf, afterApply, slotAt, firstPlan, upgradedOf, afterUpgrade}
@@ -31,9 +31,9 @@ passed : (t : Bool) (refusal : Refusal) (rest : Upgraded) {rtype size : ℕ} →
 passed true refusal rest e = absurd (let z : _≡_ {A = ℕ} 0 1 = cc in omega arith)
 passed false refusal rest e = (refl, e)
 
-kept : (t : Bool) (refusal : Refusal) (rest : Upgraded) {rtype size : ℕ} → cond t rest (Refused refusal) ≡ Done rtype size → t ≡ true
-kept true refusal rest e = refl
-kept false refusal rest e = absurd (let z : _≡_ {A = ℕ} 0 1 = cc in omega arith)
+passes : (t : Bool) (refusal : Refusal) (rest : Upgraded) {rtype size : ℕ} → cond t rest (Refused refusal) ≡ Done rtype size → t ≡ true
+passes true refusal rest e = refl
+passes false refusal rest e = absurd (let z : _≡_ {A = ℕ} 0 1 = cc in omega arith)
 
 or-none : (a b : Bool) → (a || b) ≡ false → (a ≡ false) × (b ≡ false)
 or-none true b e = absurd (false≢true (sym e))
@@ -46,16 +46,14 @@ module _ {cat srcTable dstTable marks : List ℕ} {p : Plan} (made : Planned cat
 
   slot-by-rule : (slot : List ℕ) {rtype size : ℕ} → Holds p slot → stated ≤ length src → plannedOf slot dst ≡ Done rtype size
       → upgraded (planIn slot) (recordIn src stated) dst ≡ whole
-  unfolding plannedOf slotOk
+  unfolding plannedOf
   slot-by-rule slot h lent e =
       let a = passed (ltb (length dst) (sizeIn slot)) NoRoom _ e in
-      let ok = kept (slotOk slot) BadPlan _ (a .1) in
-      let b = both (eqb (length slot) slotSize) _ ok in
-      let valid : planOk (planIn slot) ≡ true = both (allFlags slot stepsFrom (countIn slot)) (planOk (planIn slot)) (b .1) .1 in
+      let ok = passes (slotOk slot) BadPlan _ (a .1) in
       let room : sizeIn slot ≤ length dst = ltb-false _ _ (a .0) in
       let size : sizeIn slot ≡ p .size = ap (λ (q : Plan). q .size) (h .same) in
       let all : length (recordIn src stated) ≡ stated = length-take-le stated src lent in
-      upgraded-by-rule made {q = planIn slot} (record { valid = valid; same = h .same; steps = h .steps }) (recordIn src stated) dst (omega arith) (omega arith)
+      upgraded-by-rule made {q = planIn slot} (record { valid = kept-slot slot ok .valid; same = h .same; steps = h .steps }) (recordIn src stated) dst (omega arith) (omega arith)
 
   -- one plan
   pub apply-by-rule : (slot : List ℕ) {rtype size : ℕ} → Holds p slot → appliedOf slot src stated dst ≡ Done rtype size → afterApply slot src stated dst ≡ whole

@@ -1,5 +1,5 @@
 -- A plan that the planner answers is one that demand 3 speaks of, and its slot holds it. Assumes nothing.
-use Prim.Native.Nat.{ℕ, _+_, _*_}
+use Prim.Native.Nat.{ℕ, _+_}
 use native.Mathlib.Omega.{arith}
 use mathlib.Core.Path.{_≡_, refl, sym, ap, _∙_}
 use mathlib.Core.Bool.{Bool, true, false, cond, _&&_}
@@ -8,28 +8,28 @@ use borrow.Author.Tests.{ltb-true, lt-ltb}
 use lib.Dec.{ltb}
 use Rattle.limits.specs.declared.refusal.Refusal.{Refusal}
 use Rattle.limits.specs.declared.refusal.Refusal.the-variants.{BadHeader, BadDefaults}
-use Rattle.lent.specs.Bytes.{numberAt}
+use Rattle.lent.specs.Bytes.{Bytes, numberAt}
 use Rattle.lent.proofs.Scan.{both}
 use Rattle.field.specs.Field.{fieldsOf}
-use Rattle.layout.specs.Layout.{RecordLayout, recordAt, countOf}
+use Rattle.layout.specs.Layout.{RecordLayout, recordAt, recordHead, recordOf, countOf}
 use Rattle.layout.specs.Size.{recordSize}
 use Rattle.layout.specs.declared.block.Holder.the-variants.{Record}
-use Rattle.admission.specs.Admission.{admitBoth}
+use Rattle.admission.specs.Admission.{admitBoth, orRefused}
 use Rattle.admission.specs.declared.Admitted.{Admitted}
 use Rattle.admission.specs.declared.Admitted.the-variants.{Fine, Refused as Unadmitted}
 use Rattle.admission.proofs.When.{admitted}
 use Rattle.step.specs.declared.Step.{Step}
 use Rattle.slot.specs.Plan.{Plan, rtypesOk}
 use Rattle.slot.specs.Slot.{slotOf}
+use Rattle.slot.proofs.Unpacked.{plan-in}
 use Rattle.plan.specs.Rule.{wants}
 use Rattle.defaults.specs.Defaults.{headerOk, defaultsOk}
-use Rattle.planner.specs.Planner.{planBetween, unless, betweenOf, orPlanned, recordOf, plannedOf}
+use Rattle.planner.specs.Planner.{planBetween, unless, betweenOf, plannedOf}
 use Rattle.planner.specs.declared.Planned.{Planned as Answer}
 use Rattle.planner.specs.declared.Planned.the-variants.{Made, NoRecord, Refused}
 use Rattle.planner.proofs.Passing.{header-fits, body-fits}
-use Rattle.plan_read.proofs.Unpacked.{plan-in}
 use Rattle.rule.specs.Recut.{same}
-use Rattle.demand.specs.Demand.{Bytes, Planned, withSteps}
+use Rattle.demand.specs.Demand.{Planned, withSteps}
 use Rattle.demand.proofs.Layouts.{planned-of-records}
 use Rattle.demand.proofs.Upgraded.{planned-valid}
 use Rattle.applied.specs.Holds.{Holds}
@@ -43,7 +43,7 @@ made-there : (t : Bool) (rest : Answer) → cond t rest NoRecord ≡ Made → (t
 made-there true rest e = (refl, e)
 made-there false rest e = absurd (let z : _≡_ {A = ℕ} 0 1 = cc in omega arith)
 
-made-admitted : (a : Admitted) (rest : Answer) → orPlanned a rest ≡ Made → (a ≡ Fine) × (rest ≡ Made)
+made-admitted : (a : Admitted) (rest : Answer) → orRefused Refused a rest ≡ Made → (a ≡ Fine) × (rest ≡ Made)
 made-admitted Fine rest e = (refl, e)
 made-admitted (Unadmitted refusal) rest e = absurd (let z : _≡_ {A = ℕ} 0 1 = cc in omega arith)
 
@@ -73,7 +73,7 @@ module _ (cat source : List ℕ) (k : ℕ) (target : List ℕ) (to header : ℕ)
       let there = both (ltb k (countOf Record source)) (ltb to (countOf Record target)) (b .0) in
       let fits = header-fits cat header (recordSize want) (fieldsOf (want .table)) (c .0) in
       let long = body-fits cat header (recordSize want) (fieldsOf (want .table)) (wants cat marks (want .table)) body (d .0) in
-      let rtypes : rtypesOk planMade ≡ true = rw (two-bytes source (8 + 72 * k) bs, two-bytes target (8 + 72 * to) bt) in
+      let rtypes : rtypesOk planMade ≡ true = rw (two-bytes source (recordHead k) bs, two-bytes target (recordHead to) bt) in
       planned-of-records cat (source ∷ target ∷ []) (admitted cat (source ∷ target ∷ []) (a .0)) source target (List·Memᴰ·head refl) (List·Memᴰ·tail (List·Memᴰ·head refl)) bs bt
       k to (ltb-true k (countOf Record source) (there .0)) (ltb-true to (countOf Record target) (there .1)) marks planMade rtypes refl refl refl (fits .0) (fits .2) long bb refl
 

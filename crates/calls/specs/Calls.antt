@@ -1,17 +1,17 @@
 -- The calls of the field cursor: which kinds each takes, how it aligns, and the field that it places.
-use Prim.Native.Nat.{ℕ, zero, suc, _+_, _*_, min, max}
-use mathlib.Core.Bool.{Bool, true, false, cond, not, _&&_}
-use mathlib.Core.List.{List, [], _∷_}
+use Prim.Native.Nat.{ℕ, _+_, _*_, min}
+use mathlib.Core.Bool.{Bool, true, cond, not, _&&_}
+use mathlib.Core.List.{List}
 use lib.Dec.{leb, ltb, eqb}
 use lib.IntN.{ℤ, pos, negsuc}
 use Rattle.limits.specs.Limits.{maxBytes}
-use Rattle.limits.specs.declared.refusal.Refusal.the-variants.{CursorFull}
+use Rattle.lent.specs.Scan.{highest}
 use Rattle.catalogue.specs.Catalogue.{classOf, widthOf, arrayFlag, idOf, decimal, string, struct}
 use Rattle.field.specs.Field.{fieldsOf}
 use Rattle.field.specs.declared.FieldDef.{FieldDef}
 use Rattle.layout.specs.Layout.{countOf, headsFrom, structAt}
 use Rattle.layout.specs.declared.block.Holder.the-variants.{Struct}
-use Rattle.builders.specs.Cursor.{Building, Outcome, alignUp, place, moveTo, refuse, outcome}
+use Rattle.builders.specs.Cursor.{Building, Outcome, alignUp, place, moveTo, outcome}
 use Rattle.builders.specs.declared.FieldCursor.{FieldCursor}
 use Rattle.builders.specs.declared.Times.{Times}
 use Rattle.builders.specs.declared.Times.the-variants.{One, Array}
@@ -66,9 +66,8 @@ likeOf cat f def_index name =
 -- ---- nested: struct k of a layout, once or as an array
 
 -- the largest width of a table's fields
-unfoldable pub widest : List ℕ → List FieldDef → ℕ
-widest cat [] = 0
-widest cat (f ∷ fs) = max (widthOf cat (f .«type_id»)) (widest cat fs)
+abbrev pub widest : List ℕ → List FieldDef → ℕ
+widest cat fs = highest (λ f. widthOf cat (f .«type_id»)) fs
 
 abbrev pub structHead : List ℕ → ℕ → ℕ
 structHead l k = headsFrom Struct l + 48 * k

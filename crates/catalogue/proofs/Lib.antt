@@ -1,1 +1,2 @@
 pub mod First
+pub mod Valid

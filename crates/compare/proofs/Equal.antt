@@ -1,18 +1,18 @@
 -- Turns of the comparisons. Assumes nothing.
-use mathlib.Core.Path.{_≡_, refl, sym, ap, _∙_}
-use mathlib.Core.Bool.{Bool, true, false, cond, _&&_, _||_}
-use mathlib.Core.List.{List, [], _∷_, map}
+use mathlib.Core.Path.{_≡_, refl, sym, ap}
+use mathlib.Core.Bool.{Bool, true, false, _||_}
+use mathlib.Core.List.{List, map}
 use Prim.Native.Nat.{ℕ, _+_, _*_, _/_, _≤_, _<_}
 use native.Mathlib.Omega.{arith}
 use borrow.Author.Tests.{eq-eqb, ne-eqb, le-leb, lt-leb, ltb-true}
-use lib.Dec.{leb, eqb, ltb}
-use lib.ListN.{length, take, drop, getD, drop-of-length-le, length-take}
+use lib.ListN.{length, take, drop, getD}
+use Rattle.limits.specs.Limits.{maxStructFields}
 use Rattle.lent.specs.Scan.{gather, every, some, alike}
-use Rattle.lent.proofs.Scan.{entry, pair-stops, pair-goes, pairs-end}
+use Rattle.lent.proofs.Scan.{entry, no-entry, pair-stops, pair-goes, pairs-end}
 use Rattle.field.specs.Field.{fieldAt, fieldsOf, isPadding}
 use Rattle.field.specs.declared.FieldDef.{FieldDef}
 use Rattle.order.specs.Order.{byOffset}
-use Rattle.layout.specs.Layout.{StructLayout, RecordLayout, structAt, structOf, hasStruct, headOf, countOf, headsFrom, FewFields}
+use Rattle.layout.specs.Layout.{StructLayout, RecordLayout, structAt, hasStruct, headsFrom, FewFields}
 use Rattle.layout.specs.declared.block.Holder.the-variants.{Struct}
 use Rattle.compare.specs.Compare.{eqExceptDefIndex, structEq, fieldEq, met, baseCompatible}
 
@@ -51,10 +51,7 @@ module _ (F G : ℕ → FieldDef) (n k : ℕ) (a b : List ℕ) (all : Bool)
         (rw (ex, ey) at e)
 
   pub order-ends : n ≤ k → true ≡ all
-  order-ends h =
-      let i : length (take n a) ≤ k = simp length-take (omega arith) in
-      let j : length (take n b) ≤ k = simp length-take (omega arith) in
-      pairs-end eqExceptDefIndex all _ _ so (ap (map F) (drop-of-length-le (take n a) i)) (ap (map G) (drop-of-length-le (take n b) j))
+  order-ends h = pairs-end eqExceptDefIndex all _ _ so (ap (map F) (no-entry a n k h)) (ap (map G) (no-entry b n k h))
 
 -- ---- fields
 
@@ -64,7 +61,7 @@ unfolding fieldEq eqExceptDefIndex
 ids-differ cat s f c g h = rw (ne-eqb _ _ h)
 
 -- a struct that a field names has few fields
-pub few-named : (l : List ℕ) (f : FieldDef) → FewFields l → hasStruct l f ≡ true → length (structAt l (headsFrom Struct l + 48 * f .«def_index») .table) ≤ 512
+pub few-named : (l : List ℕ) (f : FieldDef) → FewFields l → hasStruct l f ≡ true → length (structAt l (headsFrom Struct l + 48 * f .«def_index») .table) ≤ 16 * maxStructFields
 few-named l f h e = let z = h .few (f .«def_index») (ltb-true _ _ e) in omega arith
 
 -- ---- records

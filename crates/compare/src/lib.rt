@@ -5,6 +5,7 @@ ghost use mathlib.Core.Path.{_≡_};
 ghost use Prim.Native.Nat.{_+_, _*_, _<_, _≤_};
 ghost use lib.Dec.{eqb};
 ghost use lib.ListN.{length};
+ghost use Rattle.limits.specs.Limits.{maxStructFields};
 ghost use Rattle.field.specs.Field.{fieldAt};
 ghost use Rattle.layout.specs.Layout.{recordAt, structAt, FewFields};
 ghost use Rattle.compare.specs.Compare.{eqExceptDefIndex, structEq, namedEq, fieldEq, baseCompatible, verdictOf};
@@ -27,7 +28,7 @@ fn eq_except_def_index(a: FieldDef, b: FieldDef) -> bool
 
 // The structs whose heads begin at h of the stream and at g of the compiled layout.
 fn struct_eq(s: &[u8], h: usize, c: &[u8], g: usize) -> bool
-    requires { ⌜ (h < 4000000000) × (g < 4000000000) × (length (structAt (now s) h .table) ≤ 512) × (length (structAt (now c) g .table) ≤ 512) ⌝ }
+    requires { ⌜ (h < 4000000000) × (g < 4000000000) × (length (structAt (now s) h .table) ≤ 16 * maxStructFields) × (length (structAt (now c) g .table) ≤ 16 * maxStructFields) ⌝ }
     ensures { λ r. ⌜ r ≡ structEq (structAt (now (s .entry)) h) (structAt (now (c .entry)) g) ⌝ }
 {
     if block::struct_size(s, h) != block::struct_size(c, g) {

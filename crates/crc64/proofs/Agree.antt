@@ -1,10 +1,10 @@
--- Avro's fingerprint is the sum of the bytes. Bytes are a list whose every place holds less than 256. Assumes nothing.
+-- Avro's fingerprint is the sum of the bytes. Assumes nothing.
 use mathlib.Core.Path.{_≡_, refl, sym, ap, _∙_}
 use mathlib.Core.List.{List, [], _∷_}
 use Prim.Native.Nat.{ℕ, zero, suc, _-_, _*_, _/_, _%_, _^_, _<_}
 use native.Mathlib.Omega.{arith}
 use lib.Bits.{bitXor, bitAnd, and-comm, and-mask, mask-lt}
-use lib.ListN.{getD}
+use Rattle.lent.specs.Bytes.{Bytes}
 use Rattle.crc64.specs.Sum.{empty, shift, shifts, byteStep, bytesStep}
 use Rattle.crc64.specs.Avro.{EMPTY, negated, turn, turns, fpTable, printByte, printFrom, fingerprint}
 use Rattle.crc64.proofs.Shifts.{masked, shift-product}
@@ -33,12 +33,12 @@ byte-agrees fp b small =
     let i : ℕ = bitAnd (bitXor fp b) 255 in
     by-entry fp b _ small (entry (turns 8) 256 i (mask-lt (bitXor fp b) 8) ∙ turns-shifts 8 i)
 
-pub agree-from : (fp : ℕ) (bs : List ℕ) → ((i : ℕ) → getD bs i 0 < 256) → printFrom fp bs ≡ bytesStep fp bs
+pub agree-from : (fp : ℕ) (bs : List ℕ) → Bytes bs → printFrom fp bs ≡ bytesStep fp bs
 unfolding printFrom bytesStep
 agree-from fp [] small = refl
 agree-from fp (b ∷ bs) small =
     ap (λ (x : ℕ). printFrom x bs) (byte-agrees fp b (small 0)) ∙ agree-from (byteStep fp b) bs (λ i. small (suc i))
 
-pub agree : (bs : List ℕ) → ((i : ℕ) → getD bs i 0 < 256) → fingerprint bs ≡ bytesStep empty bs
+pub agree : (bs : List ℕ) → Bytes bs → fingerprint bs ≡ bytesStep empty bs
 unfolding fingerprint
 agree bs small = agree-from empty bs small

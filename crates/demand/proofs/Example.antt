@@ -7,16 +7,15 @@ use mathlib.Core.List.{List, [], _∷_, _++_}
 use borrow.Author.Tests.{ltb-true}
 use lib.Dec.{ltb}
 use lib.ListN.{replicate}
-use Rattle.lent.specs.Bytes.{bytesOf}
-use Rattle.lent.specs.Scan.{every, gather, first, tally}
+use Rattle.limits.specs.Limits.{maxBytes}
+use Rattle.lent.specs.Bytes.{Bytes, bytesOf}
+use Rattle.lent.specs.Scan.{every, gather, first, tally, highest}
 use Rattle.lent.proofs.Scan.{both}
 use Rattle.catalogue.specs.Catalogue.{catalogueOk}
 use Rattle.field.specs.Field.{fieldAt, fieldsOf}
 use Rattle.order.specs.Order.{insertBy, sortBy}
 use Rattle.table.specs.Table.{tableOk, apart}
-use Rattle.table.specs.declared.Rule.{Rule}
-use Rattle.table.specs.declared.Rule.the-variants.{Reserved, Bounds, Apart, Width}
-use Rattle.layout.specs.Size.{lastEnd}
+use Rattle.admission.proofs.When.{by-rule}
 use Rattle.step.specs.Step.{copy, int}
 use Rattle.slot.specs.Plan.{Plan, isByte}
 use Rattle.plan.specs.Rule.{stepFor, stepOf, wants}
@@ -24,7 +23,7 @@ use Rattle.plan.specs.Steps.{stepsOf, joins, joinFrom, joinAll, plannedSteps}
 use Rattle.mapping.specs.Mapping.{half, span, integerOf, least, largest, numberOf, mapped, mapInt}
 use Rattle.rule.specs.Bytewise.{stepByte, bytewise}
 use Rattle.rule.specs.Body.{ruleByte, ruleBody}
-use Rattle.demand.specs.Demand.{Bytes, Admitted, Planned}
+use Rattle.demand.specs.Demand.{Admitted, Planned}
 
 -- bytes, by a test of all
 of-bytes : (s : List ℕ) → every isByte s ≡ true → Bytes s
@@ -66,25 +65,15 @@ plan =
 
 source-admitted : Admitted cat source
 unfolding cat row source every gather fieldAt apart
-source-admitted = record { bytes = of-bytes source refl; rules = rules } where
-  rules : (rule : Rule) → tableOk rule cat 4096 (fieldsOf source) ≡ true
-  rules Reserved = refl
-  rules Bounds = refl
-  rules Apart = refl
-  rules Width = refl
+source-admitted = record { bytes = of-bytes source refl; rules = by-rule (λ rule. tableOk rule cat maxBytes (fieldsOf source) ≡ true) refl refl refl refl }
 
 target-admitted : Admitted cat target
 unfolding cat row target every gather fieldAt apart
-target-admitted = record { bytes = of-bytes target refl; rules = rules } where
-  rules : (rule : Rule) → tableOk rule cat 4096 (fieldsOf target) ≡ true
-  rules Reserved = refl
-  rules Bounds = refl
-  rules Apart = refl
-  rules Width = refl
+target-admitted = record { bytes = of-bytes target refl; rules = by-rule (λ rule. tableOk rule cat maxBytes (fieldsOf target) ≡ true) refl refl refl refl }
 
 -- the planner makes the plan of the tables
 made : Planned cat source target marks plan
-unfolding cat row source target marks plan catalogueOk every gather tally fieldAt lastEnd sortBy insertBy stepFor stepOf first stepsOf joins joinFrom joinAll plannedSteps
+unfolding cat row source target marks plan catalogueOk every gather tally fieldAt highest sortBy insertBy stepFor stepOf first stepsOf joins joinFrom joinAll plannedSteps
 made =
     record {
       catalogue = refl;

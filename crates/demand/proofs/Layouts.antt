@@ -1,31 +1,29 @@
 -- What admission says of a record of an admitted layout, and a plan made of two such records. Assumes nothing.
-use Prim.Native.Nat.{ℕ, _+_, _*_, _≤_, _<_}
+use Prim.Native.Nat.{ℕ, _+_, _≤_, _<_}
 use native.Mathlib.Omega.{arith}
 use mathlib.Core.Path.{_≡_, ap, _∙_}
 use mathlib.Core.Bool.{Bool, true, false, cond}
 use mathlib.Core.List.{List, [], List·Memᴰ, List·Memᴰ·head, List·Memᴰ·tail}
-use borrow.Author.Tests.{leb-true}
-use lib.Dec.{leb}
 use lib.ListN.{length}
-use Rattle.limits.specs.Limits.{maxBytes, maxHeader, maxFields}
-use Rattle.lent.specs.Bytes.{numberAt, window, hasWindow, partOf}
+use Rattle.limits.specs.Limits.{maxHeader}
+use Rattle.lent.specs.Bytes.{Bytes, window, hasWindow, partOf}
 use Rattle.lent.specs.Scan.{every}
-use Rattle.lent.proofs.Scan.{both, nth}
+use Rattle.lent.proofs.Scan.{both}
 use Rattle.field.specs.Field.{fieldsOf}
-use Rattle.table.specs.declared.Rule.{Rule}
-use Rattle.table.specs.declared.Rule.the-variants.{Reserved, Bounds, Apart, Width}
-use Rattle.layout.specs.Layout.{startAt, lengthAt, RecordLayout, recordAt, countOf, heads}
+use Rattle.layout.specs.Layout.{startAt, lengthAt, recordAt, recordHead, recordOf, countOf}
 use Rattle.layout.specs.Size.{recordSize}
-use Rattle.layout.specs.Shape.{recordShape, headShape, countsOk, shapeOk}
+use Rattle.layout.specs.Shape.{shapeOk}
 use Rattle.layout.specs.declared.block.Holder.the-variants.{Record}
-use Rattle.layout.proofs.Shapes.{few-in-record}
-use Rattle.admission.specs.Admission.{headOk, layoutOk}
+use Rattle.layout.proofs.Shapes.{base-in-record, few-in-record}
+use Rattle.admission.specs.Admission.{layoutOk}
 use Rattle.admission.proofs.When.{Passed}
+use Rattle.admission.proofs.Records.{record-keeps}
 use Rattle.slot.specs.Plan.{Plan, rtypesOk}
 use Rattle.slot.proofs.Checking.{bytes-window}
 use Rattle.plan.specs.Rule.{wants}
 use Rattle.plan.specs.Steps.{plannedSteps}
-use Rattle.demand.specs.Demand.{Bytes, Admitted, afterHeader, Planned}
+use Rattle.defaults.specs.Defaults.{startsAfter}
+use Rattle.demand.specs.Demand.{Admitted, Planned}
 
 -- ---- bytes of a part
 
@@ -43,44 +41,23 @@ unfolding every
 every-one p (List·Memᴰ·head {x = y} {xs = ys} e) k = ap p e ∙ both (p y) (every p ys) k .0
 every-one p (List·Memᴰ·tail {x = y} {xs = ys} m) k = every-one p m (both (p y) (every p ys) k .1)
 
-rule-passed : (cat : List ℕ) (ls : List (List ℕ)) → Passed cat ls → (rule : Rule) → every (layoutOk rule cat) ls ≡ true
-rule-passed cat ls e Reserved = e .reserved
-rule-passed cat ls e Bounds = e .bounds
-rule-passed cat ls e Apart = e .apart
-rule-passed cat ls e Width = e .width
-
--- the record number k of a layout
-abbrev pub recordOf : List ℕ → ℕ → RecordLayout
-recordOf l k = recordAt l (8 + 72 * k)
-
 module _ (cat : List ℕ) (ls : List (List ℕ)) (passed : Passed cat ls) (l : List ℕ) (one : List·Memᴰ l ls) (k : ℕ) (there : k < countOf Record l) where
-  pub record-admitted : Bytes l → Admitted cat (recordOf l k .table)
-  unfolding layoutOk recordAt
+  record-admitted : Bytes l → Admitted cat (recordOf l k .table)
+  unfolding recordAt
   record-admitted bytes =
       record {
-        bytes = bytes-part l (startAt l (8 + 72 * k + 16)) (lengthAt l (8 + 72 * k + 16)) bytes;
-        rules =
-            λ rule. nth (headOk rule Record cat l) (λ (h : ℕ). h) 72 8 (countOf Record l) k there
-            (both (every (headOk rule Record cat l) (heads Record l)) _ (every-one (layoutOk rule cat) one (rule-passed cat ls passed rule)) .0);
+        bytes = bytes-part l (startAt l (recordHead k + 16)) (lengthAt l (recordHead k + 16)) bytes;
+        rules = λ rule. record-keeps cat l k there rule (every-one (layoutOk rule cat) one (passed .rules rule));
       }
 
   shaped : shapeOk l ≡ true
   shaped = every-one shapeOk one (passed .shaped)
 
-  pub record-few : length (recordOf l k .table) ≤ 16 * maxFields
-  record-few = few-in-record l k shaped there
-
-  pub record-base : recordOf l k .base ≤ maxBytes
-  unfolding shapeOk recordShape recordAt
-  record-base =
-      let all = both (every (headShape Record l) (heads Record l)) _ (both (countsOk l) _ shaped .1) .0 in
-      leb-true _ _ (both (leb (numberAt l (8 + 72 * k + 4) 4) maxBytes) _ (nth (headShape Record l) (λ (h : ℕ). h) 72 8 (countOf Record l) k there all) .0)
-
 -- a plan made of two records of admitted layouts, with what refusals 7 and 8 leave
 pub planned-of-records : (cat : List ℕ) (ls : List (List ℕ)) → Passed cat ls → (a b : List ℕ) → List·Memᴰ a ls → List·Memᴰ b ls → Bytes a → Bytes b
     → (i j : ℕ) → i < countOf Record a → j < countOf Record b → (marks : List ℕ) (p : Plan) → rtypesOk p ≡ true
     → p .srcBase ≡ recordOf a i .base → p .base ≡ recordOf b j .base → p .size ≡ recordSize (recordOf b j)
-    → p .header ≤ maxHeader → every (afterHeader cat (p .header)) (fieldsOf (recordOf b j .table)) ≡ true
+    → p .header ≤ maxHeader → every (startsAfter cat (p .header)) (fieldsOf (recordOf b j .table)) ≡ true
     → p .header + length (p .body) ≡ p .size → Bytes (p .body)
     → p .steps ≡ plannedSteps cat (fieldsOf (recordOf a i .table)) (wants cat marks (recordOf b j .table)) (p .srcBase) (p .base)
     → Planned cat (recordOf a i .table) (recordOf b j .table) marks p
@@ -89,10 +66,10 @@ planned-of-records cat ls passed a b one two bytes bytes′ i j hi hj marks p rt
       catalogue = passed .valid;
       source = record-admitted cat ls passed a one i hi bytes;
       target = record-admitted cat ls passed b two j hj bytes′;
-      few = record-few cat ls passed b two j hj;
+      few = few-in-record b j (shaped cat ls passed b two j hj) hj;
       rtypes = rtypes;
-      srcBase = omega (arith, record-base cat ls passed a one i hi);
-      base = omega (arith, record-base cat ls passed b two j hj);
+      srcBase = omega (arith, base-in-record a i (shaped cat ls passed a one i hi) hi);
+      base = omega (arith, base-in-record b j (shaped cat ls passed b two j hj) hj);
       size = rw eb size;
       header = header;
       after = after;

@@ -8,3 +8,4 @@ pub mod Fields
 pub mod Sequence
 pub mod Layouts
 pub mod Example
+pub mod Marks

@@ -17,7 +17,8 @@ use Rattle.step.specs.Step.{copy, int, stepOk}
 use Rattle.step.specs.declared.Step.{Step}
 use Rattle.plan.specs.Rule.{Want, counts, sameScale, sameKind, apart, isString, isSigned, sameSign, sameId, stepFor, stepOf}
 use Rattle.rule.proofs.Planned.{If, if-cond, if-first}
-use Rattle.demand.proofs.Types.{integer-width, one-type}
+use Rattle.catalogue.proofs.Valid.{integer-width}
+use Rattle.demand.proofs.Types.{one-type}
 
 -- a field that is admitted, with a type id that is a byte
 abbrev pub admitted : List ℕ → FieldDef → Bool

@@ -4,12 +4,12 @@ use native.Mathlib.Omega.{arith}
 use mathlib.Core.Path.{_≡_, refl, ap}
 use mathlib.Core.Bool.{Bool, true, _&&_}
 use mathlib.Core.List.{List, [], _∷_}
-use borrow.Author.Tests.{leb-true, lt-ltb, le-leb}
+use borrow.Author.Tests.{lt-ltb, le-leb}
 use lib.Dec.{leb, ltb}
 use lib.ListN.{length}
 use Rattle.limits.specs.Limits.{maxBytes}
-use Rattle.lent.specs.Bytes.{byteAt}
-use Rattle.lent.specs.Scan.{gather, every}
+use Rattle.lent.specs.Bytes.{byteAt, Bytes}
+use Rattle.lent.specs.Scan.{gather, every, highest}
 use Rattle.field.specs.Field.{fieldAt, fieldsOf, endOf}
 use Rattle.field.specs.declared.FieldDef.{FieldDef}
 use Rattle.table.specs.Table.{inBounds, widthOk}
@@ -17,7 +17,8 @@ use Rattle.table.specs.declared.Rule.the-variants.{Bounds, Width}
 use Rattle.layout.specs.Size.{lastEnd}
 use Rattle.plan.specs.Rule.{wantAt, wants}
 use Rattle.rule.specs.Body.{defs}
-use Rattle.demand.specs.Demand.{Bytes, Admitted, afterHeader}
+use Rattle.defaults.specs.Defaults.{startsAfter}
+use Rattle.demand.specs.Demand.{Admitted}
 use Rattle.lent.proofs.Scan.{both, gathered-length}
 use Rattle.demand.proofs.Right.{admitted}
 use Rattle.demand.proofs.Ascending.{placed}
@@ -55,18 +56,9 @@ all-admitted cat t a =
     (every-and (widthOk cat) (λ f. ltb (f .«type_id») 256) (fieldsOf t) (a .rules Width) (byte-types t 0 (length t / 16) (a .bytes)))
 
 all-end : (size : ℕ) (fs : List FieldDef) → lastEnd fs ≤ size → every (λ f. leb (endOf f) size) fs ≡ true
-unfolding lastEnd every
+unfolding highest every
 all-end size [] h = refl
 all-end size (f ∷ fs) h = rw (le-leb (endOf f) size (omega arith)) (all-end size fs (omega arith))
 
-pub all-placed : (cat : List ℕ) (header size : ℕ) (fs : List FieldDef) → every (afterHeader cat header) fs ≡ true → lastEnd fs ≤ size → every (placed cat header size) fs ≡ true
-all-placed cat header size fs e h = every-and (afterHeader cat header) (λ f. leb (endOf f) size) fs e (all-end size fs h)
-
-pub last-inside : (most : ℕ) (fs : List FieldDef) → every (inBounds most) fs ≡ true → lastEnd fs ≤ most
-unfolding lastEnd every
-last-inside most [] e = omega arith
-last-inside most (f ∷ fs) e =
-    let a = both (inBounds most f) (every (inBounds most) fs) e in
-    let b : endOf f ≤ most = leb-true _ _ (both (ltb 0 (f .size)) (leb (endOf f) most) (a .0) .1) in
-    let c = last-inside most fs (a .1) in
-    omega arith
+pub all-placed : (cat : List ℕ) (header size : ℕ) (fs : List FieldDef) → every (startsAfter cat header) fs ≡ true → lastEnd fs ≤ size → every (placed cat header size) fs ≡ true
+all-placed cat header size fs e h = every-and (startsAfter cat header) (λ f. leb (endOf f) size) fs e (all-end size fs h)

@@ -11,14 +11,15 @@ use lib.Seq.{sets, sets-eq, length-sets, ext-getD}
 use Rattle.limits.specs.Limits.{maxBytes, maxHeader, maxSteps}
 use Rattle.lent.specs.Bytes.{byteAt}
 use Rattle.lent.specs.Scan.{every}
-use Rattle.lent.proofs.Scan.{both}
 use Rattle.field.specs.Field.{fieldsOf}
 use Rattle.table.specs.Table.{apart}
 use Rattle.table.specs.declared.Rule.the-variants.{Bounds, Apart}
 use Rattle.layout.specs.Size.{lastEnd}
+use Rattle.admission.proofs.Records.{last-inside}
 use Rattle.step.specs.Step.{stepsOk}
 use Rattle.step.specs.declared.Step.{Step}
-use Rattle.slot.specs.Plan.{Plan, rtypesOk, sizesOk, bodyOk, planOk}
+use Rattle.slot.specs.Plan.{Plan, planOk}
+use Rattle.slot.proofs.Kept.{kept}
 use Rattle.slot.proofs.Checking.{bytes-every}
 use Rattle.plan.specs.Rule.{wants}
 use Rattle.plan.specs.Steps.{plannedSteps}
@@ -30,7 +31,7 @@ use Rattle.rule.proofs.Stores.{length-bytewise, byte-bytewise, get, run-out, ru
 use Rattle.rule.proofs.Planned.{planned-byte}
 use Rattle.demand.specs.Demand.{Planned, Recuts}
 use Rattle.demand.proofs.Ascending.{planned-few, planned-steps-ok}
-use Rattle.demand.proofs.Tables.{fields-are, wants-length, all-admitted, all-placed, last-inside}
+use Rattle.demand.proofs.Tables.{fields-are, wants-length, all-admitted, all-placed}
 
 -- ---- steps that change each byte by a rule, on a target that a body was stored in
 
@@ -73,16 +74,6 @@ module _ (src dst : List ℕ) (h : ℕ) (body : List ℕ) (ss : List Step) (size
       ∙ append-assoc (take h dst) (bytewise rule h body) (drop (h + length (bytewise rule h body)) dst)
       ∙ ap (λ (k : ℕ). take h dst ++ (bytewise rule h body ++ drop k dst)) e
 
--- ---- what a valid plan's rules say of its steps
-
-pub steps-of : (q : Plan) → planOk q ≡ true → stepsOk (q .header) (q .size) (q .steps) ≡ true
-unfolding planOk
-steps-of q e =
-    let last = leb (length (q .steps)) maxSteps && stepsOk (q .header) (q .size) (q .steps) in
-    let a = both (rtypesOk q && sizesOk q) (bodyOk q && last) e .1 in
-    let b = both (bodyOk q) last a .1 in
-    both (leb (length (q .steps)) maxSteps) (stepsOk (q .header) (q .size) (q .steps)) b .1
-
 -- ---- the theorem, and that the planner's own plan is such a plan
 
 module _ {cat srcTable dstTable marks : List ℕ} {p : Plan} (made : Planned cat srcTable dstTable marks p) where
@@ -98,7 +89,7 @@ module _ {cat srcTable dstTable marks : List ℕ} {p : Plan} (made : Planned cat
       let eh : q .header ≡ p .header = ap (λ (x : Plan). x .header) (r .same) in
       let es : q .size ≡ p .size = ap (λ (x : Plan). x .size) (r .same) in
       let eb : q .body ≡ p .body = ap (λ (x : Plan). x .body) (r .same) in
-      let ok : stepsOk (p .header) (p .size) (q .steps) ≡ true = rw (eh, es) at (steps-of q (r .valid)) in
+      let ok : stepsOk (p .header) (p .size) (q .steps) ≡ true = rw (eh, es) at (kept q (r .valid) .steps) in
       let k : Recut (p .srcBase) (plannedSteps cat (fieldsOf srcTable) (wants cat marks dstTable) (p .srcBase) (p .base)) (q .steps) = rw (made .steps) at (r .steps) in
       rw (eh, eb)
       (laid-run src dst (p .header) (p .body) (q .steps) (p .size) (made .body) room ok (ruleByte cat (fieldsOf srcTable) (wants cat marks dstTable) src)

@@ -1,13 +1,12 @@
 -- The words of demand 3: a plan that the planner makes of two tables, and a plan that differs from it only in cuts.
-use Prim.Native.Nat.{ℕ, _+_, _*_, _≤_, _<_, max}
+use Prim.Native.Nat.{ℕ, _+_, _*_, _≤_, max}
 use mathlib.Core.Path.{_≡_}
-use mathlib.Core.Bool.{Bool, true, false, not, _||_}
+use mathlib.Core.Bool.{true, false}
 use mathlib.Core.List.{List}
 use mathlib.Core.Option.{Option, none, some}
-use lib.Dec.{leb}
 use lib.ListN.{length}
 use Rattle.limits.specs.Limits.{maxBytes, maxHeader, maxFields}
-use Rattle.lent.specs.Bytes.{byteAt}
+use Rattle.lent.specs.Bytes.{Bytes}
 use Rattle.lent.specs.Scan.{every, first}
 use Rattle.catalogue.specs.Catalogue.{unsigned, classOf, catalogueOk}
 use Rattle.field.specs.Field.{fieldsOf, isArray}
@@ -17,21 +16,15 @@ use Rattle.table.specs.declared.Rule.{Rule}
 use Rattle.layout.specs.Size.{lastEnd}
 use Rattle.step.specs.declared.Step.{Step}
 use Rattle.slot.specs.Plan.{Plan, rtypesOk, planOk}
-use Rattle.plan.specs.Rule.{counts, wants, sameId}
+use Rattle.plan.specs.Rule.{wants, sameId}
 use Rattle.plan.specs.Steps.{plannedSteps}
+use Rattle.defaults.specs.Defaults.{startsAfter}
 use Rattle.rule.specs.Recut.{Recut}
-
-abbrev pub Bytes : List ℕ → Type 0
-Bytes s = (i : ℕ) → byteAt s i < 256
 
 -- a table of bytes that refusals 3 to 6 leave
 pub record Admitted (cat table : List ℕ) : Type 0 where
   pub bytes : Bytes table
   pub rules : (rule : Rule) → tableOk rule cat maxBytes (fieldsOf table) ≡ true
-
--- a field that counts does not start inside the header
-abbrev pub afterHeader : List ℕ → ℕ → FieldDef → Bool
-afterHeader cat header f = not (counts cat f) || leb header (f .offset)
 
 -- a plan that the planner makes of two tables and marks, as refusals 1 to 8 leave it
 pub record Planned (cat srcTable dstTable marks : List ℕ) (p : Plan) : Type 0 where
@@ -44,7 +37,7 @@ pub record Planned (cat srcTable dstTable marks : List ℕ) (p : Plan) : Type 0 
   pub base : p .base ≤ maxBytes
   pub size : p .size ≡ max (p .base) (lastEnd (fieldsOf dstTable))
   pub header : p .header ≤ maxHeader
-  pub after : every (afterHeader cat (p .header)) (fieldsOf dstTable) ≡ true
+  pub after : every (startsAfter cat (p .header)) (fieldsOf dstTable) ≡ true
   pub body : p .header + length (p .body) ≡ p .size
   pub bytes : Bytes (p .body)
   pub steps : p .steps ≡ plannedSteps cat (fieldsOf srcTable) (wants cat marks dstTable) (p .srcBase) (p .base)

@@ -2,12 +2,11 @@
 use mathlib.Core.Path.{_≡_, refl, sym, ap, _∙_}
 use mathlib.Core.Bool.{Bool, true, false, cond}
 use mathlib.Core.List.{List, [], _∷_, _++_}
-use Prim.Native.Nat.{ℕ, zero, suc, _+_, _/_, _%_, _<_}
+use Prim.Native.Nat.{ℕ, zero, suc, _+_, _/_}
 use native.Mathlib.Omega.{arith}
 use lib.Dec.{ltb}
-use lib.ListN.{getD}
 use Rattle.limits.specs.declared.refusal.Refusal.the-variants.{OverBudget}
-use Rattle.lent.specs.Bytes.{bytesOf}
+use Rattle.lent.specs.Bytes.{Bytes, bytesOf}
 use Rattle.crc64.specs.Sum.{empty, bytesStep}
 use Rattle.crc64.specs.Avro.{printByte, printFrom, fingerprint}
 use Rattle.crc64.proofs.Agree.{agree-from}
@@ -16,23 +15,18 @@ use Rattle.field.specs.Field.{fieldsOf, byteOf}
 use Rattle.field.specs.declared.FieldDef.{FieldDef}
 use Rattle.order.specs.Order.{byOffset}
 use Rattle.layout.specs.Layout.{structOf}
-use Rattle.hash.specs.Walk.{Walked, Went, Stopped, after, fieldBytes, namesStruct, walkField, walkFields, walkTable, walkRecord}
+use Rattle.hash.specs.Walk.{Walked, Went, Stopped, after, fieldBytes, namesStruct, walkField, walkFields, walkTable}
 use Rattle.hash.specs.Hash.{summed, hashOf}
 use Rattle.hash.specs.Parts.{told}
 
 -- ---- what the walk feeds are bytes
 
-Bytes : List ℕ → Type 0
-Bytes bs = (i : ℕ) → getD bs i 0 < 256
-
 are-bytes : (n v : ℕ) → Bytes (bytesOf n v)
-unfolding Bytes
 are-bytes zero v i = omega arith
 are-bytes (suc n) v zero = omega arith
 are-bytes (suc n) v (suc i) = are-bytes n (v / 256) i
 
 both-bytes : (a b : List ℕ) → Bytes a → Bytes b → Bytes (a ++ b)
-unfolding Bytes
 both-bytes [] b ha hb i = hb i
 both-bytes (x ∷ a) b ha hb zero = ha 0
 both-bytes (x ∷ a) b ha hb (suc i) = both-bytes a b (λ j. ha (suc j)) hb i
@@ -40,11 +34,15 @@ both-bytes (x ∷ a) b ha hb (suc i) = both-bytes a b (λ j. ha (suc j)) hb i
 field-bytes : (f : FieldDef) → Bytes (fieldBytes f)
 unfolding fieldBytes
 field-bytes f =
-    both-bytes (bytesOf 2 (f .«field_id»)) _ (are-bytes 2 (f .«field_id»))
-    (both-bytes (bytesOf 2 (f .offset)) _ (are-bytes 2 (f .offset))
-    (both-bytes (bytesOf 2 (f .size)) _ (are-bytes 2 (f .size))
-    (both-bytes (bytesOf 1 (f .«type_id»)) _ (are-bytes 1 (f .«type_id»))
-    (both-bytes (bytesOf 1 (f .flags)) _ (are-bytes 1 (f .flags)) (are-bytes 1 (byteOf (f .scale)))))))
+    let last : List ℕ = bytesOf 1 (byteOf (f .scale)) in
+    let flags : List ℕ = bytesOf 1 (f .flags) ++ last in
+    let type : List ℕ = bytesOf 1 (f .«type_id») ++ flags in
+    let size : List ℕ = bytesOf 2 (f .size) ++ type in
+    both-bytes (bytesOf 2 (f .«field_id»)) (bytesOf 2 (f .offset) ++ size) (are-bytes 2 (f .«field_id»))
+    (both-bytes (bytesOf 2 (f .offset)) size (are-bytes 2 (f .offset))
+    (both-bytes (bytesOf 2 (f .size)) type (are-bytes 2 (f .size))
+    (both-bytes (bytesOf 1 (f .«type_id»)) flags (are-bytes 1 (f .«type_id»))
+    (both-bytes (bytesOf 1 (f .flags)) last (are-bytes 1 (f .flags)) (are-bytes 1 (byteOf (f .scale)))))))
 
 prints-join : (fp : ℕ) (a b : List ℕ) → printFrom fp (a ++ b) ≡ printFrom (printFrom fp a) b
 unfolding printFrom
@@ -53,7 +51,7 @@ prints-join fp (x ∷ a) b = prints-join (printByte fp x) a b
 
 -- bytes behind others go into the sum of those
 fed : (bs x : List ℕ) → Bytes x → fingerprint (bs ++ x) ≡ bytesStep (fingerprint bs) x
-unfolding fingerprint Bytes
+unfolding fingerprint
 fed bs x h = prints-join _ bs x ∙ agree-from _ x h
 
 -- ---- one walk is the image of the other

@@ -1,17 +1,18 @@
 -- Turns of the walk that the code makes: one that feeds a sum. Assumes nothing.
 use mathlib.Core.Path.{_≡_, refl, sym, ap, _∙_, subst}
-use mathlib.Core.Bool.{Bool, true, false, cond, _&&_}
-use mathlib.Core.List.{List, [], _∷_, map}
-use Prim.Native.Nat.{ℕ, zero, suc, _+_, _-_, _*_, _/_, _≤_, _<_}
+use mathlib.Core.Bool.{Bool, true, false, cond}
+use mathlib.Core.List.{List, map}
+use Prim.Native.Nat.{ℕ, suc, _+_, _-_, _*_, _/_, _≤_, _<_}
 use native.Mathlib.Omega.{arith}
 use borrow.Author.Tests.{ltb-true}
 use lib.Dec.{ltb, eqb}
-use lib.ListN.{length, getD, take, drop, drop-of-length-le, length-take}
+use lib.ListN.{length, getD, take, drop}
+use Rattle.limits.specs.Limits.{maxFields}
 use Rattle.limits.specs.declared.refusal.Refusal.{Refusal}
 use Rattle.limits.specs.declared.refusal.Refusal.the-variants.{OverBudget, TooDeep}
 use Rattle.lent.specs.Bytes.{bytesOf}
 use Rattle.lent.specs.Scan.{gather}
-use Rattle.lent.proofs.Scan.{both, entry}
+use Rattle.lent.proofs.Scan.{both, entry, no-entry}
 use Rattle.catalogue.specs.Catalogue.{classOf, struct}
 use Rattle.crc64.specs.Sum.{bytesStep}
 use Rattle.field.specs.Field.{fieldAt, fieldsOf}
@@ -35,7 +36,7 @@ taken enter l Over = Stopped OverBudget
 -- a struct that is entered has few fields
 abbrev pub Few : List ℕ → Visit → Type 0
 Few l (On fp visits) = Unit {0}
-Few l (Enter fp visits head) = length (structAt l head .table) ≤ 2048
+Few l (Enter fp visits head) = length (structAt l head .table) ≤ 16 * maxFields
 Few l Over = Unit {0}
 
 picked : (enter : List FieldDef → ℕ → ℕ → Walked ℕ) (l : List ℕ) (p q : Bool) (a b : Visit)
@@ -101,9 +102,7 @@ module _ (cat l : List ℕ) (budget : ℕ) (enter : List FieldDef → ℕ → �
 
   pub walk-ends : n ≤ k → Sum fp visits ≡ all
   unfolding walkFields
-  walk-ends h =
-      let i : length (take n o) ≤ k = simp length-take (omega arith) in
-      rw (drop-of-length-le (take n o) i) at so
+  walk-ends h = rw (no-entry o n k h) at so
 
 -- a table is entered: its fields in offset order
 pub walk-starts : (cat l : List ℕ) (budget levels : ℕ) (table o : List ℕ) (n fp visits : ℕ) → 0 < levels → n ≡ length table / 16

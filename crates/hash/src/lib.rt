@@ -2,6 +2,7 @@
 ghost use mathlib.Core.Path.{_≡_};
 ghost use Prim.Native.Nat.{_+_, _*_, _<_, _≤_};
 ghost use lib.ListN.{length};
+ghost use Rattle.limits.specs.Limits.{maxFields};
 ghost use Rattle.lent.specs.Bytes.{bytesOf};
 ghost use Rattle.crc64.specs.Sum.{digitTable, bytesStep};
 ghost use Rattle.field.specs.Field.{fieldsOf};
@@ -115,7 +116,7 @@ fn hash_table(
     start: u64,
     used: usize,
 ) -> Hashed
-    requires { ⌜ (now t ≡ digitTable) × FewFields (now l) × (levels < 1024) × (length (now table) ≤ 2048) ⌝ }
+    requires { ⌜ (now t ≡ digitTable) × FewFields (now l) × (levels < 1024) × (length (now table) ≤ 16 * maxFields) ⌝ }
     ensures { λ r. ⌜ r ≡ told (walkTable bytesStep (now (cat .entry)) (now (l .entry)) budget levels (fieldsOf (now (table .entry))) start used) ⌝ }
 {
     if levels == 0 {
@@ -143,7 +144,7 @@ fn hash_table(
 
 // The hash of a record's table, with a budget of visits.
 pub fn hash_record(cat: &[u8], l: &[u8], budget: usize, table: &[u8]) -> Hashed
-    requires { ⌜ FewFields (now l) × (length (now table) ≤ 2048) ⌝ }
+    requires { ⌜ FewFields (now l) × (length (now table) ≤ 16 * maxFields) ⌝ }
     ensures { λ r. ⌜ r ≡ hashOf (now (cat .entry)) (now (l .entry)) budget (fieldsOf (now (table .entry))) ⌝ }
 {
     let t = digitwise::table();

@@ -1,6 +1,6 @@
 -- What a layout of the right shape gives its readers. Assumes nothing.
 use mathlib.Core.Path.{_≡_}
-use mathlib.Core.Bool.{Bool, true, false, _&&_}
+use mathlib.Core.Bool.{true, _&&_}
 use mathlib.Core.List.{List}
 use Prim.Native.Nat.{ℕ, _+_, _*_, _%_, _≤_, _<_}
 use native.Mathlib.Omega.{arith}
@@ -12,7 +12,7 @@ use Rattle.lent.specs.Bytes.{numberAt}
 use Rattle.lent.specs.Scan.{every}
 use Rattle.lent.proofs.Bytes.{part-length}
 use Rattle.lent.proofs.Scan.{both, nth}
-use Rattle.layout.specs.Layout.{startAt, lengthAt, recordAt, structAt, countOf, headsFrom, heads, FewFields}
+use Rattle.layout.specs.Layout.{startAt, lengthAt, recordAt, recordHead, recordOf, structAt, countOf, headsFrom, heads, FewFields}
 use Rattle.layout.specs.Shape.{nameOk, partOk, tableShape, namesShape, recordShape, structShape, headShape, countsOk, shapeOk}
 use Rattle.layout.specs.declared.block.Holder.the-variants.{Record, Struct}
 
@@ -25,13 +25,21 @@ module _ (l : List ℕ) (k : ℕ) (shaped : shapeOk l ≡ true) where
   unfolding shapeOk
   each = both _ _ (both (countsOk l) _ shaped .1)
 
-  -- no table has more fields than its limit
-  pub few-in-record : k < countOf Record l → length (recordAt l (8 + 72 * k) .table) ≤ 16 * maxFields
+  -- a record's base, and what its head says besides
+  parts : k < countOf Record l
+      → (leb (recordOf l k .base) maxBytes ≡ true) × ((nameOk l (recordHead k + 32) && (tableShape l (recordHead k + 16) maxFields && namesShape l (recordHead k + 16))) ≡ true)
   unfolding recordShape recordAt
+  parts h = both _ _ (nth (headShape Record l) (λ (p : ℕ). p) 72 8 (countOf Record l) k h (each .0))
+
+  pub base-in-record : k < countOf Record l → recordOf l k .base ≤ maxBytes
+  base-in-record h = leb-true _ _ (parts h .0)
+
+  -- no table has more fields than its limit
+  pub few-in-record : k < countOf Record l → length (recordOf l k .table) ≤ 16 * maxFields
+  unfolding recordAt
   few-in-record h =
-      let at : ℕ = 8 + 72 * k in
-      let z = nth (headShape Record l) (λ (p : ℕ). p) 72 8 (countOf Record l) k h (each .0) in
-      let y = both (nameOk l (at + 32)) (tableShape l (at + 16) maxFields && namesShape l (at + 16)) (both (leb (numberAt l (at + 4) 4) maxBytes) _ z .1) .1 in
+      let at : ℕ = recordHead k in
+      let y = both (nameOk l (at + 32)) (tableShape l (at + 16) maxFields && namesShape l (at + 16)) (parts h .1) .1 in
       let x = few l (at + 16) maxFields (both (tableShape l (at + 16) maxFields) (namesShape l (at + 16)) y .0) in
       omega (arith, part-length l (startAt l (at + 16)) (lengthAt l (at + 16)))
 

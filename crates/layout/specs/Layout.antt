@@ -67,12 +67,20 @@ abbrev pub countOf : Holder → List ℕ → ℕ
 countOf Record l = numberAt l 0 2
 countOf Struct l = numberAt l 2 2
 
+-- where the head of record k stands, if there are so many
+abbrev pub recordHead : ℕ → ℕ
+recordHead k = 8 + 72 * k
+
 abbrev pub headsFrom : Holder → List ℕ → ℕ
 headsFrom Record l = 8
-headsFrom Struct l = 8 + 72 * countOf Record l
+headsFrom Struct l = recordHead (countOf Record l)
 
 abbrev pub heads : Holder → List ℕ → List ℕ
 heads holder l = places (headSize holder) (headsFrom holder l) (countOf holder l)
+
+-- record k
+abbrev pub recordOf : List ℕ → ℕ → RecordLayout
+recordOf l k = recordAt l (recordHead k)
 
 abbrev pub records : List ℕ → List RecordLayout
 records l = map (recordAt l) (heads Record l)

@@ -1,13 +1,13 @@
 -- The size of a record: the greater of its base and the last end of a field, padding and header included.
 use Prim.Native.Nat.{ℕ, max}
-use mathlib.Core.List.{List, [], _∷_}
+use mathlib.Core.List.{List}
+use Rattle.lent.specs.Scan.{highest}
 use Rattle.field.specs.Field.{fieldsOf, endOf}
 use Rattle.field.specs.declared.FieldDef.{FieldDef}
 use Rattle.layout.specs.Layout.{RecordLayout}
 
-unfoldable pub lastEnd : List FieldDef → ℕ
-lastEnd [] = 0
-lastEnd (f ∷ fs) = max (endOf f) (lastEnd fs)
+abbrev pub lastEnd : List FieldDef → ℕ
+lastEnd fs = highest endOf fs
 
 abbrev pub recordSize : RecordLayout → ℕ
 recordSize r = max (r .base) (lastEnd (fieldsOf (r .table)))

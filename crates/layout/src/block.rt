@@ -1,7 +1,7 @@
 // Where things stand in a block, of any bytes.
 ghost use mathlib.Core.Path.{_≡_};
 ghost use Prim.Native.Nat.{_+_, _*_, _/_, _<_, _≤_};
-ghost use Rattle.layout.specs.Layout.{startAt, lengthAt, partAt, recordAt, structAt, headSize, countOf, headsFrom, tableAt, limitAt, hasStruct};
+ghost use Rattle.layout.specs.Layout.{startAt, lengthAt, partAt, recordAt, structAt, headSize, countOf, recordHead, headsFrom, tableAt, limitAt, hasStruct};
 use field::FieldDef;
 
 // What has a head, and a table of fields.
@@ -59,7 +59,7 @@ pub fn heads_from(holder: Holder, l: &[u8]) -> usize
 // The head of record k.
 pub fn record_head(k: usize) -> usize
     requires { ⌜ k < 65536 ⌝ }
-    ensures { λ r. ⌜ (r ≡ 8 + 72 * k) × (r < 4718600) ⌝ }
+    ensures { λ r. ⌜ (r ≡ recordHead k) × (r < 4718600) ⌝ }
 {
     HEAD + RECORD_HEAD * k
 }

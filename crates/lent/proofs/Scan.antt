@@ -1,13 +1,13 @@
 -- A turn of a loop that scans and counts down what is left. Assumes nothing.
 use mathlib.Core.Path.{_≡_, refl, sym, ap}
-use mathlib.Core.Bool.{Bool, true, false, cond, _&&_, _||_, false≢true}
+use mathlib.Core.Bool.{Bool, true, false, cond, _&&_, false≢true}
 use mathlib.Core.List.{List, [], _∷_}
-use Prim.Native.Nat.{ℕ, zero, suc, _+_, _-_, _*_, _≤_, _<_}
+use Prim.Native.Nat.{ℕ, zero, suc, _+_, _-_, _*_, _≤_, _<_, max}
 use native.Mathlib.Nat.{not-suc-le-zero, mul-suc}
-use lib.ListN.{length, take, drop, getD}
+use lib.ListN.{length, take, drop, getD, drop-of-length-le, length-take}
 use lib.Seq.{drop-cons, getD-take, length-take-le}
 use native.Mathlib.Omega.{arith}
-use Rattle.lent.specs.Scan.{gather, every, some, first, last, alike, tally, places}
+use Rattle.lent.specs.Scan.{gather, every, some, first, last, alike, tally, highest, places}
 
 -- as many as there are places
 pub gathered-length : {A : Type 0} (read : ℕ → A) (step at n : ℕ) → length (gather read step at n) ≡ n
@@ -110,6 +110,18 @@ module _ {A : Type 0} (read : ℕ → A) (step at n : ℕ) where
     unfolding tally
     counted e = let z : m + 0 ≡ all = rw (none e) at so in omega arith
 
+  module _ (number : A → ℕ) (most all : ℕ) (so : max most (highest number (gather read step at n)) ≡ all) where
+    -- the largest so far goes along
+    pub highest-goes : 0 < n → max (max most (number (read at))) (highest number (gather read step (at + step) (n - 1))) ≡ all
+    unfolding highest
+    highest-goes h =
+        let z : max most (max (number (read at)) (highest number (gather read step (at + step) (n - 1)))) ≡ all = rw (turn h) at so in
+        omega arith
+
+    pub highest-found : n ≡ 0 → most ≡ all
+    unfolding highest
+    highest-found e = let z : max most 0 ≡ all = rw (none e) at so in omega arith
+
 pub small : (t : ℕ) (b : Bool) → t ≡ cond b 1 0 → t ≤ 1
 small t true e = omega arith
 small t false e = omega arith
@@ -152,6 +164,9 @@ pub entry : (o : List ℕ) (n k : ℕ) → n ≤ length o → k < n → drop k (
 entry o n k fits h =
     let i : k < length (take n o) = omega (arith, length-take-le n o fits) in
     rw (← getD-take n o k 0 h) (next (take n o) k i)
+
+pub no-entry : {A : Type 0} (o : List A) (n k : ℕ) → n ≤ k → drop k (take n o) ≡ []
+no-entry o n k h = let i : length (take n o) ≤ k = simp length-take (omega arith) in drop-of-length-le (take n o) i
 
 -- two lists, pair by pair
 module _ {A B : Type 0} (test : A → B → Bool) (all : Bool) where

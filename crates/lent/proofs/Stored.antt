@@ -4,9 +4,9 @@ use mathlib.Core.List.{List, [], _∷_, _++_, append-nil}
 use Prim.Native.Nat.{ℕ, zero, suc, _+_, _-_, _*_, _/_, _%_, _^_, _≤_, _<_}
 use native.Mathlib.Nat.{add-zero, div-one, div-div-eq-div-mul, pow-succ'}
 use native.Mathlib.Omega.{arith}
-use lib.ListN.{length, getD, set, take, drop, replicate, length-set, drop-of-length-le}
+use lib.ListN.{length, set, replicate, length-set, drop-of-length-le}
 use lib.Seq.{sets, sets-eq, set-set, set-comm, drop-cons, take-all, getD-set-same, getD-set-other}
-use Rattle.lent.specs.Bytes.{byteAt, numberAt, bytesOf, window}
+use Rattle.lent.specs.Bytes.{byteAt, Bytes, numberAt, bytesOf, window}
 use Rattle.lent.proofs.Bytes.{window-length}
 
 pub window-cons : (s : List ℕ) (a n : ℕ) → a < length s → window s a (suc n) ≡ byteAt s a ∷ window s (suc a) n
@@ -140,7 +140,7 @@ store-add d at (suc n) m v =
 -- ---- runs of several bytes at once
 
 -- the bytes of the number that n bytes hold are these bytes
-pub bytes-there : (s : List ℕ) (n at : ℕ) → ((i : ℕ) → byteAt s i < 256) → at + n ≤ length s → bytesOf n (numberAt s at n) ≡ window s at n
+pub bytes-there : (s : List ℕ) (n at : ℕ) → Bytes s → at + n ≤ length s → bytesOf n (numberAt s at n) ≡ window s at n
 bytes-there s zero at small h = refl
 bytes-there s (suc n) at small h =
     let b = small at in

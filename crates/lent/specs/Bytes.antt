@@ -1,5 +1,5 @@
 -- Lent bytes, read so that any bytes will do: past the end there is a zero, and a part that does not lie inside is empty.
-use Prim.Native.Nat.{ℕ, zero, suc, _+_, _*_, _/_, _%_}
+use Prim.Native.Nat.{ℕ, zero, suc, _+_, _*_, _/_, _%_, _<_}
 use mathlib.Core.Bool.{Bool, cond}
 use mathlib.Core.List.{List, [], _∷_}
 use lib.Dec.{leb}
@@ -7,6 +7,10 @@ use lib.ListN.{length, getD, take, drop}
 
 abbrev pub byteAt : List ℕ → ℕ → ℕ
 byteAt s at = getD s at 0
+
+-- what a list of numbers has to keep to be lent as bytes
+abbrev pub Bytes : List ℕ → Type 0
+Bytes s = (i : ℕ) → byteAt s i < 256
 
 -- the number that n bytes from `at` on hold, low first
 abbrev pub numberAt : List ℕ → ℕ → ℕ → ℕ

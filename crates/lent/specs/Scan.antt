@@ -1,5 +1,5 @@
 -- What a loop over lent bytes finds: a list of what is read at places that lie evenly, and questions to such a list.
-use Prim.Native.Nat.{ℕ, zero, suc, _+_}
+use Prim.Native.Nat.{ℕ, zero, suc, _+_, max}
 use mathlib.Core.Bool.{Bool, true, false, cond, _&&_, _||_}
 use mathlib.Core.List.{List, [], _∷_}
 
@@ -23,6 +23,11 @@ module _ {A : Type 0} where
   unfoldable pub tally : (A → Bool) → List A → ℕ
   tally test [] = 0
   tally test (x ∷ xs) = cond (test x) 1 0 + tally test xs
+
+  -- the largest number that one of them has, 0 where there is none
+  unfoldable pub highest : (A → ℕ) → List A → ℕ
+  highest number [] = 0
+  highest number (x ∷ xs) = max (number x) (highest number xs)
 
 module _ {A B : Type 0} where
   -- what the first that passes the test gives, and what there is where none passes

@@ -1,13 +1,13 @@
 -- A turn of the planner's loop: the steps left, joined onto those done, give what the whole does. Assumes nothing.
-use mathlib.Core.Path.{_≡_, refl, sym, ap, ap₂, _∙_}
+use mathlib.Core.Path.{_≡_, refl, sym, ap, _∙_}
 use mathlib.Core.Bool.{Bool, true, false, cond}
 use mathlib.Core.List.{List, [], _∷_, _++_, map}
-use Prim.Native.Nat.{ℕ, zero, suc, _+_, _-_, _≤_, _<_}
+use Prim.Native.Nat.{ℕ, suc, _+_, _-_, _≤_, _<_}
 use native.Mathlib.Numerals.{add-one}
 use native.Mathlib.Omega.{arith}
-use lib.ListN.{length, getD, take, drop, set, drop-of-length-le, length-take}
+use lib.ListN.{length, getD, take, drop, set}
 use lib.Seq.{take-suc, take-suc-set}
-use Rattle.lent.proofs.Scan.{entry}
+use Rattle.lent.proofs.Scan.{entry, no-entry}
 use Rattle.field.specs.declared.FieldDef.{FieldDef}
 use Rattle.step.specs.declared.Step.{Step}
 use Rattle.plan.specs.Rule.{Want, stepOf}
@@ -24,9 +24,7 @@ module _ (cat : List ℕ) (haves : List FieldDef) (read : ℕ → Want) (order :
   module _ (sb tb k count : ℕ) (steps all : List Step) (so : joinOnto sb tb (take count steps) (rest k) ≡ all) where
     pub no-more : n ≤ k → take count steps ≡ all
     unfolding stepsOf
-    no-more h =
-        let l : length (take n order) ≤ k = simp length-take (omega arith) in
-        sym (onto-end sb tb (take count steps)) ∙ rw (drop-of-length-le (take n order) l) at so
+    no-more h = sym (onto-end sb tb (take count steps)) ∙ rw (no-entry order n k h) at so
 
     module _ (more : k < n) (fits : n ≤ length order) where
       turned : rest k ≡ before (stepOf cat haves (read (getD order k 0))) (rest (k + 1))

@@ -178,7 +178,7 @@ fn in_order(
 // The steps from a source's table to a target's, under its marks.
 pub fn planned(cat: &[u8], src: &[u8], dst: &[u8], marks: &[u8], bases: Bases) -> Steps
     requires { ⌜ (length (now dst) ≤ 16 * maxFields) × (bases .source < 65536) × (length (now src) ≤ 16 * maxFields) ⌝ }
-    ensures { λ r. ⌜ (take (r .count) (r .steps) ≡ plannedSteps (now (cat .entry)) (fieldsOf (now (src .entry))) (wants (now (cat .entry)) (now (marks .entry)) (now (dst .entry))) (bases .source) (bases .target)) × (r .count ≤ 128) ⌝ }
+    ensures { λ r. ⌜ (take (r .count) (r .steps) ≡ plannedSteps (now (cat .entry)) (fieldsOf (now (src .entry))) (wants (now (cat .entry)) (now (marks .entry)) (now (dst .entry))) (bases .source) (bases .target)) × (r .count ≤ maxSteps) ⌝ }
 {
     let n = dst.len() / field::SIZE;
     let mut order = [0u16; limits::MAX_FIELDS];

@@ -1,26 +1,23 @@
 -- What the writer writes is read back to the plan. Assumes nothing.
-use mathlib.Core.Path.{_≡_, refl, sym, ap, _∙_}
-use mathlib.Core.Bool.{Bool, true, false, cond, not, _&&_}
+use mathlib.Core.Path.{_≡_, refl, ap, _∙_}
+use mathlib.Core.Bool.{Bool, true, false}
 use mathlib.Core.List.{List, [], _∷_, _++_, append-assoc}
-use Prim.Native.Nat.{ℕ, zero, suc, _+_, _-_, _*_, _≤_, _<_}
+use Prim.Native.Nat.{ℕ, _+_, _-_, _*_, _≤_}
 use native.Mathlib.Omega.{arith}
 use lib.ListN.{length, drop}
 use lib.Seq.{drop-drop}
-use lib.Dec.{eqb, leb, ltb}
-use borrow.Author.Tests.{eqb-true, leb-true, ltb-true}
-use Rattle.limits.specs.Limits.{maxBytes, maxHeader, maxSteps}
+use lib.Dec.{eqb}
 use Rattle.lent.specs.Scan.{every}
-use Rattle.lent.proofs.Scan.{both}
-use Rattle.step.specs.Step.{opOk, widthsOk, stepOk, within, endOf, stepsOk}
 use Rattle.step.specs.declared.Op.{Op}
 use Rattle.step.specs.declared.Op.the-variants.{Copy, Int}
 use Rattle.step.specs.declared.Step.{Step}
-use Rattle.slot.specs.Plan.{Plan, isByte, rtypesOk, sizesOk, bodyOk, planOk}
-use Rattle.decimal.specs.Decimal.{cell, head, number, past, pasts, nth}
+use Rattle.slot.specs.Plan.{Plan, isByte, planOk}
+use Rattle.slot.proofs.Kept.{Low, AllLow, kept, all-low}
+use Rattle.decimal.specs.Decimal.{cell, number, past, pasts, nth}
 use Rattle.decimal.specs.Hex.{hex, unhex}
 use Rattle.decimal.proofs.Numbers.{number-back, past-back}
 use Rattle.decimal.proofs.Nibbles.{hex-back, hex-past}
-use Rattle.plan_text.specs.Text.{tab, newline, signOf, markOf, headLine, bodyLine, stepLine, stepLines, textOf}
+use Rattle.plan_text.specs.Text.{tab, newline, signOf, markOf, bodyLine, stepLine, stepLines, textOf}
 use Rattle.plan_text.proofs.Laid.{head-starts}
 use Rattle.plan_read.specs.Lenient.{stepAs, stepPast, stepsAs, planAs}
 
@@ -39,11 +36,6 @@ end-past : (n : ℕ) (l : List ℕ) → past (cell n newline ++ l) ≡ l
 end-past n l = past-back n newline l refl
 
 -- ---- a step
-
--- all numbers of a step in two bytes
-unfoldable pub Low : Op → Type 0
-Low (Copy a b n) = (a ≤ 65535) × (b ≤ 65535) × (n ≤ 65535)
-Low (Int a b n m s k) = (a ≤ 65535) × (b ≤ 65535) × (n ≤ 65535) × (m ≤ 65535)
 
 sign-back : (s : Bool) → eqb (signOf s) 115 ≡ s
 sign-back true = refl
@@ -67,34 +59,10 @@ step-past-back (Int a b n m s k) l = simp append-assoc (rw (tab-past a, tab-past
 
 -- ---- the steps
 
-unfoldable pub AllLow : List Step → Type 0
-AllLow [] = Unit
-AllLow (s ∷ ss) = Low (s .op) × AllLow ss
-
 steps-back : (ss : List Step) → AllLow ss → stepsAs (length ss) (stepLines ss) ≡ ss
 unfolding stepsAs stepLines AllLow
 steps-back [] h = refl
 steps-back (s ∷ ss) h = rw (step-back (s .op) (stepLines ss) (h .0), step-past-back (s .op) (stepLines ss), steps-back ss (h .1))
-
-op-low : (op : Op) (low high : ℕ) → high ≤ 4096 → (opOk op && within low high (record { op = op })) ≡ true → Low op
-unfolding Low
-op-low (Copy a b n) low high l h =
-    let g = both (not (eqb n 0) && leb (a + n) maxBytes) (leb low b && leb (b + n) high) h in
-    let z : a + n ≤ 4096 = leb-true (a + n) maxBytes (both (not (eqb n 0)) (leb (a + n) maxBytes) (g .0) .1) in
-    let y : b + n ≤ high = leb-true (b + n) high (both (leb low b) (leb (b + n) high) (g .1) .1) in
-    (omega arith, omega arith, omega arith)
-op-low (Int a b n m s k) low high l h =
-    let g = both (widthsOk n m k && leb (a + n) maxBytes) (leb low b && leb (b + m) high) h in
-    let z : a + n ≤ 4096 = leb-true (a + n) maxBytes (both (widthsOk n m k) (leb (a + n) maxBytes) (g .0) .1) in
-    let y : b + m ≤ high = leb-true (b + m) high (both (leb low b) (leb (b + m) high) (g .1) .1) in
-    (omega arith, omega arith, omega arith, omega arith)
-
-pub all-low : (ss : List Step) (low high : ℕ) → high ≤ 4096 → stepsOk low high ss ≡ true → AllLow ss
-unfolding stepsOk AllLow
-all-low [] low high l h = tt
-all-low (s ∷ ss) low high l h =
-    let g = both (stepOk s && within low high s) (stepsOk (endOf s) high ss) h in
-    (op-low (s .op) low high l (g .0), all-low ss (endOf s) high l (g .1))
 
 -- ---- the first line
 
@@ -156,45 +124,6 @@ body-past n body l e =
 
 -- ---- the plan
 
--- what the rules say of its numbers
-pub record Kept (p : Plan) : Type 0 where
-  pub a0 : p .srcRtype < 65536
-  pub a1 : p .rtype < 65536
-  pub a2 : p .srcBase ≤ 4096
-  pub a3 : p .header ≤ p .size
-  pub a4 : p .base ≤ p .size
-  pub a5 : p .size ≤ 4096
-  pub a6 : length (p .steps) ≤ 128
-  pub whole : p .header + length (p .body) ≡ p .size
-  pub bytes : every isByte (p .body) ≡ true
-  pub all : stepsOk (p .header) (p .size) (p .steps) ≡ true
-
-pub kept : (p : Plan) → planOk p ≡ true → Kept p
-unfolding planOk
-kept p ok =
-    let z = both (rtypesOk p && sizesOk p) (bodyOk p && (leb (length (p .steps)) maxSteps && stepsOk (p .header) (p .size) (p .steps))) ok in
-    let y = both (rtypesOk p) (sizesOk p) (z .0) in
-    let r = both (ltb (p .srcRtype) 65536) (ltb (p .rtype) 65536) (y .0) in
-    let s = both (leb (p .srcBase) maxBytes && leb (p .size) maxBytes) ((leb (p .header) maxHeader && leb (p .header) (p .size)) && leb (p .base) (p .size)) (y .1) in
-    let u = both (leb (p .srcBase) maxBytes) (leb (p .size) maxBytes) (s .0) in
-    let v = both (leb (p .header) maxHeader && leb (p .header) (p .size)) (leb (p .base) (p .size)) (s .1) in
-    let w = both (leb (p .header) maxHeader) (leb (p .header) (p .size)) (v .0) in
-    let b = both (bodyOk p) (leb (length (p .steps)) maxSteps && stepsOk (p .header) (p .size) (p .steps)) (z .1) in
-    let d = both (eqb (p .header + length (p .body)) (p .size)) (every isByte (p .body)) (b .0) in
-    let f = both (leb (length (p .steps)) maxSteps) (stepsOk (p .header) (p .size) (p .steps)) (b .1) in
-    record {
-      a0 = ltb-true (p .srcRtype) 65536 (r .0);
-      a1 = ltb-true (p .rtype) 65536 (r .1);
-      a2 = leb-true (p .srcBase) maxBytes (u .0);
-      a3 = leb-true (p .header) (p .size) (w .1);
-      a4 = leb-true (p .base) (p .size) (v .1);
-      a5 = leb-true (p .size) maxBytes (u .1);
-      a6 = leb-true (length (p .steps)) maxSteps (f .0);
-      whole = eqb-true (p .header + length (p .body)) (p .size) (d .0);
-      bytes = d .1;
-      all = f .1;
-    }
-
 pub plan-back : (p : Plan) → planOk p ≡ true → planAs (textOf p) ≡ p
 unfolding textOf nums
 plan-back p ok =
@@ -202,13 +131,9 @@ plan-back p ok =
     let n : length (p .body) ≡ p .size - p .header = omega (arith, k .whole) in
     let rest = bodyLine (p .body) ++ stepLines (p .steps) in
     from-numbers (p .srcRtype) (p .rtype) (p .srcBase) (p .header) (p .base) (p .size) (length (p .steps)) rest
-    (omega (arith, k .a0)) (omega (arith, k .a1)) (omega (arith, k .a2)) (omega (arith, k .a3, k .a5)) (omega (arith, k .a4, k .a5)) (omega (arith, k .a5)) (omega (arith, k .a6))
+    (omega (arith, k .srcRtype)) (omega (arith, k .rtype)) (omega (arith, k .sizes .srcBase)) (omega (arith, k .sizes .header, k .sizes .size)) (omega (arith, k .sizes .base, k .sizes .size)) (omega (arith, k .sizes .size)) (omega (arith, k .few))
     (textOf p) (p .body) (p .steps)
     (ap (λ (l : List ℕ). drop 7 (l ++ rest)) (head-starts (p .srcRtype) (p .rtype) (p .srcBase) (p .header) (p .base) (p .size) (length (p .steps)))
     ∙ seven (cell (p .srcRtype) tab) (cell (p .rtype) tab) (cell (p .srcBase) tab) (cell (p .header) tab) (cell (p .base) tab) (cell (p .size) tab) (cell (length (p .steps)) newline) rest)
     (body-back (p .size - p .header) (p .body) (stepLines (p .steps)) n (k .bytes))
-    (rw (body-past (p .size - p .header) (p .body) (stepLines (p .steps)) n) (steps-back (p .steps) (all-low (p .steps) (p .header) (p .size) (k .a5) (k .all))))
-
--- a plan that keeps the rules has room in a slot
-pub roomy : (p : Plan) → planOk p ≡ true → (p .size ≤ maxBytes) × (length (p .steps) ≤ maxSteps)
-roomy p ok = (kept p ok .a5, kept p ok .a6)
+    (rw (body-past (p .size - p .header) (p .body) (stepLines (p .steps)) n) (steps-back (p .steps) (all-low (p .steps) (p .header) (p .size) (k .sizes .size) (k .steps))))

@@ -1,35 +1,32 @@
 -- What is taken out of a text into a slot of zeros, and what the reader makes of it. Assumes nothing.
-use mathlib.Core.Path.{_≡_, refl, sym, ap, _∙_}
+use mathlib.Core.Path.{_≡_, refl, sym, _∙_}
 use mathlib.Core.Bool.{Bool, true, false, cond, _&&_, false≢true}
 use mathlib.Core.List.{List, [], _∷_, _++_, append-assoc}
-use Prim.Native.Nat.{ℕ, zero, suc, _+_, _-_, _*_, _/_, _%_, _≤_, _<_}
+use Prim.Native.Nat.{ℕ, zero, suc, _+_, _-_, _*_, _%_, _≤_, _<_}
 use native.Mathlib.Omega.{arith}
-use lib.ListN.{length, take, drop, set, replicate, length-append, length-replicate, length-set}
+use lib.ListN.{length, drop, set, replicate, length-append, length-replicate, length-set}
 use lib.Seq.{sets, set-append-left}
 use lib.Dec.{eqb, leb}
 use borrow.Author.Tests.{le-leb, lt-leb, leb-true}
 use Rattle.limits.specs.Limits.{maxBytes, maxSteps}
 use Rattle.limits.specs.declared.refusal.Refusal.the-variants.{BadPlan, NoRoom}
-use Rattle.lent.specs.Bytes.{byteAt, numberAt, bytesOf, window}
+use Rattle.lent.specs.Bytes.{byteAt, numberAt, window}
 use Rattle.lent.specs.Scan.{alike}
 use Rattle.lent.proofs.Scan.{both}
 use Rattle.lent.proofs.Stored.{get-in, whole}
-use Rattle.slot.specs.Plan.{Plan, planOk}
-use Rattle.slot.specs.Slot.{slotSize, stepsFrom, bodyFrom, headerIn, sizeIn, countIn, planIn, slotOk, packedSteps, headAs, headOf, slotOf}
+use Rattle.slot.specs.Slot.{slotSize, stepsFrom, bodyFrom, headerIn, sizeIn, countIn, planIn, slotOk, packedSteps, headOf, slotOf}
+use Rattle.slot.proofs.Kept.{Kept, kept, kept-slot}
 use Rattle.slot.proofs.Packing.{steps-size}
-use Rattle.decimal.specs.Decimal.{isDigit, pushed, number, past, pasts, nth}
+use Rattle.slot.proofs.Unpacked.{slot-long, plan-in, slot-ok}
+use Rattle.decimal.specs.Decimal.{isDigit, pushed, number, pasts, nth}
 use Rattle.decimal.specs.Hex.{unhex}
 use Rattle.decimal.proofs.Nibbles.{unhex-length}
-use Rattle.plan_text.specs.Text.{textOf}
 use Rattle.plan_text.specs.Writing.{textIn}
-use Rattle.plan_text.proofs.Whole.{keeps-plan}
 use Rattle.plan_read.specs.Lenient.{numbersAs, stepsAs, numbersFrom, bodyTextFrom, stepsTextFrom, headerAs, sizeAs, countAs, planAs, hasRoom, accepts}
-use Rattle.plan_read.specs.Reading.{IsTextOf, readOf, afterReading}
+use Rattle.plan_read.specs.Reading.{readOf, afterReading}
 use Rattle.plan_read.specs.declared.reader.ReadPlan.the-variants.{Read, Refused}
-use Rattle.plan_read.proofs.Back.{roomy}
 use Rattle.plan_read.proofs.Drawn.{drawn-length}
 use Rattle.plan_read.proofs.Theorems.{alike-self, alike-same, only, accepted}
-use Rattle.plan_read.proofs.Unpacked.{slot-long, plan-in, slot-ok}
 
 -- ---- stores into zeros
 
@@ -138,28 +135,28 @@ pub candidate-is : (t : List ℕ) → hasRoom t ≡ true
 unfolding slotOf planAs
 candidate-is t room =
     let r = both (leb (sizeAs t) maxBytes) (leb (countAs t) maxSteps) room in
-    let s : sizeAs t ≤ 4096 = leb-true (sizeAs t) maxBytes (r .0) in
-    let c : countAs t ≤ 128 = leb-true (countAs t) maxSteps (r .1) in
+    let s : sizeAs t ≤ maxBytes = leb-true (sizeAs t) maxBytes (r .0) in
+    let c : countAs t ≤ maxSteps = leb-true (countAs t) maxSteps (r .1) in
     let lb = unhex-length (sizeAs t - headerAs t) (bodyTextFrom t) in
     let lc = drawn-length (countAs t) (stepsTextFrom t) in
     let lp = steps-size (stepsAs (countAs t) (stepsTextFrom t)) in
     let ln = fourteen (numbersFrom t) in
     let lh : length (numbersAs 7 (numbersFrom t) ++ (0 ∷ 0 ∷ [])) ≡ 16 = length-append (numbersAs 7 (numbersFrom t)) (0 ∷ 0 ∷ []) ∙ omega arith in
-    let z = numbered (numbersAs 7 (numbersFrom t)) 2048 4096 6160 (omega arith) in
-    let w = laid (numbersAs 7 (numbersFrom t) ++ (0 ∷ 0 ∷ [])) (packedSteps (stepsAs (countAs t) (stepsTextFrom t))) (unhex (sizeAs t - headerAs t) (bodyTextFrom t)) 2048 4096 (omega arith) (omega arith) in
+    let z = numbered (numbersAs 7 (numbersFrom t)) (16 * maxSteps) maxBytes slotSize (omega arith) in
+    let w = laid (numbersAs 7 (numbersFrom t) ++ (0 ∷ 0 ∷ [])) (packedSteps (stepsAs (countAs t) (stepsTextFrom t))) (unhex (sizeAs t - headerAs t) (bodyTextFrom t)) (16 * maxSteps) maxBytes (omega arith) (omega arith) in
     rw z ((rw lh at w) ∙ rw (head-as t))
 
 -- ---- the reader's answers
 
-has-room : (t : List ℕ) → (planAs t .size ≤ maxBytes) × (length (planAs t .steps) ≤ maxSteps) → hasRoom t ≡ true
+has-room : (t : List ℕ) → Kept (planAs t) → hasRoom t ≡ true
 unfolding planAs
-has-room t r = let l = drawn-length (countAs t) (stepsTextFrom t) in rw (le-leb (sizeAs t) maxBytes (r .0), le-leb (countAs t) maxSteps (omega (arith, r .1)))
+has-room t k = let l = drawn-length (countAs t) (stepsTextFrom t) in rw (le-leb (sizeAs t) maxBytes (k .sizes .size), le-leb (countAs t) maxSteps (omega (arith, k .few)))
 
 no-room : (t : List ℕ) → hasRoom t ≡ false → accepts t ≡ false
 no-room t f = go (accepts t) refl where
   go : (b : Bool) → accepts t ≡ b → b ≡ false
   go false e = refl
-  go true e = absurd (false≢true (sym f ∙ has-room t (roomy (planAs t) (only t e .keeps))))
+  go true e = absurd (false≢true (sym f ∙ has-room t (kept (planAs t) (only t e .keeps))))
 
 -- the rules and the comparison, asked of the candidate, say whether the text is accepted
 pub judged : (t slot : List ℕ) → slot ≡ slotOf (planAs t) → (slotOk slot && alike eqb (textIn slot) t) ≡ accepts t
@@ -172,7 +169,7 @@ judged t slot e = go (accepts t) (slotOk slot && alike eqb (textIn slot) t) refl
   own : (slotOk slot && alike eqb (textIn slot) t) ≡ true → accepts t ≡ true
   own j =
       let s = both (slotOk slot) (alike eqb (textIn slot) t) j in
-      accepted t (planIn slot) (record { keeps = keeps-plan slot (s .0) .1; written = alike-same (textIn slot) t (s .1) })
+      accepted t (planIn slot) (record { keeps = kept-slot slot (s .0) .valid; written = alike-same (textIn slot) t (s .1) })
 
   go : (a j : Bool) → accepts t ≡ a → (slotOk slot && alike eqb (textIn slot) t) ≡ j → j ≡ a
   go true j ea ej = sym ej ∙ fine ea

@@ -2,5 +2,4 @@ pub mod Back
 pub mod Theorems
 pub mod Parted
 pub mod Drawn
-pub mod Unpacked
 pub mod Candidate

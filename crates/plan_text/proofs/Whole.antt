@@ -1,25 +1,20 @@
 -- The whole text of the plan that a slot holds, part by part. Assumes nothing.
-use mathlib.Core.Path.{_≡_, refl, sym, ap, _∙_}
-use mathlib.Core.Bool.{Bool, true, false, cond, _&&_}
-use mathlib.Core.List.{List, [], _∷_, _++_}
-use Prim.Native.Nat.{ℕ, zero, suc, _+_, _-_, _*_, _≤_, _<_}
+use mathlib.Core.Path.{_≡_, ap, _∙_}
+use mathlib.Core.Bool.{true, false}
+use mathlib.Core.List.{List, _++_}
+use Prim.Native.Nat.{ℕ, _+_, _-_, _*_, _≤_, _<_}
 use native.Mathlib.Omega.{arith}
 use lib.ListN.{length, length-append}
 use lib.Seq.{sets}
-use lib.Dec.{eqb, leb}
-use borrow.Author.Tests.{eqb-true, leb-true, le-leb, lt-leb}
-use Rattle.limits.specs.Limits.{maxBytes, maxSteps}
+use borrow.Author.Tests.{le-leb, lt-leb}
 use Rattle.limits.specs.declared.refusal.Refusal.the-variants.{BadPlan, NoRoom}
 use Rattle.lent.specs.Bytes.{window}
-use Rattle.lent.proofs.Scan.{both, gathered-length}
-use Rattle.lent.specs.Scan.{gather}
+use Rattle.lent.proofs.Scan.{gathered-length}
 use Rattle.step.specs.Packed.{stepAt, stepsAt}
-use Rattle.step.specs.Step.{stepsOk}
-use Rattle.slot.specs.Plan.{Plan, rtypesOk, sizesOk, bodyOk, planOk}
-use Rattle.slot.specs.Slot.{slotSize, stepsFrom, bodyFrom, headerIn, sizeIn, countIn, planIn, allFlags, slotOk}
-use Rattle.slot.proofs.Checking.{sizes}
+use Rattle.slot.specs.Slot.{stepsFrom, bodyFrom, headerIn, sizeIn, countIn, slotOk}
+use Rattle.slot.proofs.Kept.{kept-slot}
 use Rattle.lent.proofs.Bytes.{window-length}
-use Rattle.plan_text.specs.Text.{headLine, bodyLine, stepLines, textOf}
+use Rattle.plan_text.specs.Text.{bodyLine, stepLines, textOf}
 use Rattle.plan_text.specs.Held.{Held, headIn}
 use Rattle.plan_text.specs.Writing.{textIn, writtenOf, afterWriting}
 use Rattle.plan_text.specs.declared.writer.Written.the-variants.{Length, Refused}
@@ -48,23 +43,8 @@ body-wide slot h =
     omega arith
 
 -- what a slot that keeps the rules lends to the parts
-pub keeps-plan : (slot : List ℕ) → slotOk slot ≡ true → (length slot ≡ slotSize) × (planOk (planIn slot) ≡ true)
-unfolding slotOk
-keeps-plan slot ok =
-    let a = both (eqb (length slot) slotSize) (allFlags slot stepsFrom (countIn slot) && planOk (planIn slot)) ok in
-    (eqb-true (length slot) slotSize (a .0), both (allFlags slot stepsFrom (countIn slot)) (planOk (planIn slot)) (a .1) .1)
-
 pub held : (slot : List ℕ) → slotOk slot ≡ true → Held slot
-unfolding planOk
-held slot ok =
-    let k = keeps-plan slot ok in
-    let p = planIn slot in
-    let z = both (rtypesOk p && sizesOk p) (bodyOk p && (leb (length (p .steps)) maxSteps && stepsOk (p .header) (p .size) (p .steps))) (k .1) in
-    let s = sizes p (both (rtypesOk p) (sizesOk p) (z .0) .1) in
-    let b = both (bodyOk p) (leb (length (p .steps)) maxSteps && stepsOk (p .header) (p .size) (p .steps)) (z .1) in
-    let f = leb-true (length (p .steps)) maxSteps (both (leb (length (p .steps)) maxSteps) (stepsOk (p .header) (p .size) (p .steps)) (b .1) .0) in
-    let l = gathered-length (stepAt slot) 16 stepsFrom (countIn slot) in
-    record { long = k .0; few = omega arith; most = s .0; headed = s .1 }
+held slot ok = let k = kept-slot slot ok in record { long = k .long; few = k .few; most = k .plan .sizes .size; headed = k .plan .sizes .header }
 
 -- ---- the writer's answers
 

@@ -2,6 +2,7 @@
 ghost use mathlib.Core.Path.{_≡_};
 ghost use Prim.Native.Nat.{_+_, _*_, _≤_};
 ghost use lib.ListN.{length};
+ghost use Rattle.limits.specs.Limits.{maxSteps};
 ghost use Rattle.slot.specs.Slot.{slotSize, stepsFrom};
 ghost use Rattle.step.specs.Packed.{stepsAt};
 ghost use Rattle.plan_text.specs.Held.{Held, tabbed, headIn};
@@ -58,8 +59,8 @@ pub fn of_step(step: Step) -> usize
 }
 
 fn of_steps(slot: &[u8], count: usize) -> usize
-    requires { ⌜ (length (now slot) ≡ slotSize) × (count ≤ 128) ⌝ }
-    ensures { λ r. ⌜ (r ≡ length (stepLines (stepsAt (now (slot .entry)) stepsFrom count))) × (r ≤ 4096) ⌝ }
+    requires { ⌜ (length (now slot) ≡ slotSize) × (count ≤ maxSteps) ⌝ }
+    ensures { λ r. ⌜ (r ≡ length (stepLines (stepsAt (now (slot .entry)) stepsFrom count))) × (r ≤ 32 * maxSteps) ⌝ }
 {
     let mut sum = 0;
     let mut at = slot::STEPS_FROM;

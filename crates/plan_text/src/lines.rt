@@ -3,6 +3,7 @@ ghost use mathlib.Core.Path.{_≡_};
 ghost use mathlib.Core.Bool.{cond};
 ghost use Prim.Native.Nat.{_+_, _*_, _≤_};
 ghost use lib.ListN.{length};
+ghost use Rattle.limits.specs.Limits.{maxBytes};
 ghost use Rattle.lent.specs.Bytes.{window};
 ghost use Rattle.slot.specs.Slot.{slotSize, bodyFrom, stepsFrom};
 ghost use Rattle.step.specs.Packed.{stepsAt};
@@ -45,7 +46,7 @@ pub fn put_head(slot: &[u8], out: &mut [u8], at: usize) -> usize
 }
 
 pub fn put_body(slot: &[u8], n: usize, out: &mut [u8], at: usize) -> usize
-    requires { ⌜ (length (now slot) ≡ slotSize) × (n ≤ 4096) × (at + length (bodyLine (window (now slot) bodyFrom n)) ≤ length (now out)) ⌝ }
+    requires { ⌜ (length (now slot) ≡ slotSize) × (n ≤ maxBytes) × (at + length (bodyLine (window (now slot) bodyFrom n)) ≤ length (now out)) ⌝ }
     ensures { λ r. ⌜ Put (now (out .entry)) at (bodyLine (window (now (slot .entry)) bodyFrom n)) (now (out .exit)) r ⌝ }
 {
     let start = put_all(b"body\t", out, at);

@@ -1,5 +1,5 @@
 -- The plan from a record of one layout to a record of another, and when it is refused.
-use Prim.Native.Nat.{ℕ, _+_, _*_}
+use Prim.Native.Nat.{ℕ}
 use mathlib.Core.Bool.{Bool, cond, _&&_}
 use mathlib.Core.List.{List}
 use lib.Dec.{leb, ltb}
@@ -8,12 +8,10 @@ use lib.Seq.{sets}
 use Rattle.limits.specs.declared.refusal.Refusal.{Refusal}
 use Rattle.limits.specs.declared.refusal.Refusal.the-variants.{BadHeader, BadDefaults, NoRoom}
 use Rattle.field.specs.Field.{fieldsOf}
-use Rattle.layout.specs.Layout.{RecordLayout, recordAt, countOf}
+use Rattle.layout.specs.Layout.{RecordLayout, recordOf, countOf}
 use Rattle.layout.specs.Size.{recordSize}
 use Rattle.layout.specs.declared.block.Holder.the-variants.{Record}
-use Rattle.admission.specs.Admission.{admitBoth}
-use Rattle.admission.specs.declared.Admitted.{Admitted}
-use Rattle.admission.specs.declared.Admitted.the-variants.{Fine, Refused as Unadmitted}
+use Rattle.admission.specs.Admission.{admitBoth, orRefused}
 use Rattle.slot.specs.Plan.{Plan}
 use Rattle.slot.specs.Slot.{slotSize, slotOf}
 use Rattle.plan.specs.Rule.{wants}
@@ -47,18 +45,10 @@ betweenOf cat want header body marks room =
     (unless (defaultsOk cat header (recordSize want) (fieldsOf (want .table)) (wants cat marks (want .table)) body) BadDefaults
     (unless (leb slotSize room) NoRoom Made))
 
--- the refusal of admission, else what follows
-abbrev pub orPlanned : Admitted → Planned → Planned
-orPlanned Fine rest = rest
-orPlanned (Unadmitted refusal) rest = Refused refusal
-
-abbrev pub recordOf : List ℕ → ℕ → RecordLayout
-recordOf l k = recordAt l (8 + 72 * k)
-
 -- from record k of the source's layout to record `to` of the target's
 unfoldable pub plannedOf : List ℕ → List ℕ → ℕ → List ℕ → ℕ → ℕ → List ℕ → List ℕ → ℕ → Planned
 plannedOf cat source k target to header body marks room =
-    orPlanned (admitBoth cat source target)
+    orRefused Refused (admitBoth cat source target)
     (cond (ltb k (countOf Record source) && ltb to (countOf Record target)) (betweenOf cat (recordOf target to) header body marks room) NoRecord)
 
 -- what is left of the lent room: the plan's slot, or all as found

@@ -3,17 +3,13 @@ use Prim.Native.Nat.{ℕ, _-_, _/_}
 use mathlib.Core.Bool.{Bool, cond}
 use mathlib.Core.List.{List}
 use lib.Dec.{ltb, eqb}
-use Rattle.limits.specs.declared.refusal.Refusal.{Refusal}
 use Rattle.lent.specs.Scan.{first, alike}
-use Rattle.layout.specs.Layout.{RecordLayout, recordAt, heads, countOf}
+use Rattle.layout.specs.Layout.{RecordLayout, recordAt, recordOf, heads, countOf}
 use Rattle.layout.specs.Find.{firstOf}
 use Rattle.layout.specs.declared.find.Place.{Place}
 use Rattle.layout.specs.declared.find.Place.the-variants.{At, Nowhere}
 use Rattle.layout.specs.declared.block.Holder.the-variants.{Record}
-use Rattle.admission.specs.Admission.{admitBoth}
-use Rattle.admission.specs.declared.Admitted.{Admitted}
-use Rattle.admission.specs.declared.Admitted.the-variants.{Fine, Refused as Unadmitted}
-use Rattle.planner.specs.Planner.{recordOf}
+use Rattle.admission.specs.Admission.{admitBoth, orRefused}
 use Rattle.planner.specs.declared.select.Selected.{Selected}
 use Rattle.planner.specs.declared.select.Selected.the-variants.{Record as Chosen, Unplanned, NoRecord, Refused}
 
@@ -40,11 +36,7 @@ abbrev pub asSelected : Place → Selected
 asSelected (At h) = Chosen ((h - 8) / 72)
 asSelected Nowhere = Unplanned
 
-abbrev pub orSelected : Admitted → Selected → Selected
-orSelected Fine rest = rest
-orSelected (Unadmitted refusal) rest = Refused refusal
-
 unfoldable pub selectedOf : List ℕ → List ℕ → ℕ → List ℕ → Bool → ℕ → Selected
 selectedOf cat source k target wanted schema =
-    orSelected (admitBoth cat source target)
+    orRefused Refused (admitBoth cat source target)
     (cond (ltb k (countOf Record source)) (asSelected (chosen target (recordOf source k) wanted schema)) NoRecord)

@@ -1,22 +1,23 @@
 -- What the check of a slot finds is what its rules ask. Assumes nothing.
-use mathlib.Core.Path.{_≡_, refl, sym, ap}
+use mathlib.Core.Path.{_≡_, refl, sym}
 use mathlib.Core.Bool.{Bool, true, false, _&&_, false≢true}
 use mathlib.Core.List.{List, [], _∷_}
-use Prim.Native.Nat.{ℕ, zero, suc, _+_, _-_, _*_, _≤_, _<_}
+use Prim.Native.Nat.{ℕ, suc, _+_, _-_, _<_}
 use native.Mathlib.Omega.{arith}
-use lib.Dec.{leb, ltb, eqb}
-use lib.ListN.{length, getD, take, drop, length-take, length-drop, List·getD-eq-default}
+use lib.Dec.{leb, ltb}
+use lib.ListN.{length, drop, length-take, length-drop, List·getD-eq-default}
 use lib.Seq.{getD-take, getD-drop, length-take-le}
 use borrow.Author.Tests.{lt-ltb, eq-eqb, ne-eqb, leb-true, leb-false}
-use Rattle.limits.specs.Limits.{maxBytes, maxHeader, maxSteps}
-use Rattle.lent.specs.Bytes.{byteAt, numberAt, window}
-use Rattle.lent.specs.Scan.{gather, every}
-use Rattle.lent.proofs.Scan.{turn, none, both, gathered-length}
+use Rattle.limits.specs.Limits.{maxSteps}
+use Rattle.lent.specs.Bytes.{byteAt, Bytes, numberAt, window}
+use Rattle.lent.specs.Scan.{every}
+use Rattle.lent.proofs.Scan.{turn, none, gathered-length}
 use Rattle.step.specs.Step.{stepOk, within, endOf, stepsOk}
 use Rattle.step.specs.Packed.{stepAt, flagsOk, stepsAt}
 use Rattle.step.specs.declared.Step.{Step}
-use Rattle.slot.specs.Plan.{Plan, isByte, rtypesOk, sizesOk, bodyOk, planOk}
+use Rattle.slot.specs.Plan.{isByte, rtypesOk, sizesOk, bodyOk, planOk}
 use Rattle.slot.specs.Slot.{slotSize, stepsFrom, bodyFrom, headerIn, sizeIn, countIn, planIn, allFlags, keeps, slotOk}
+use Rattle.slot.proofs.Kept.{sized}
 
 -- ---- a turn over the steps
 
@@ -53,9 +54,6 @@ module _ (slot : List ℕ) (at left low high : ℕ) (all : Bool) (so : keeps slo
 
 -- ---- the whole slot
 
-abbrev Bytes : List ℕ → Type 0
-Bytes s = (i : ℕ) → byteAt s i < 256
-
 pub bytes-every : (xs : List ℕ) → Bytes xs → every isByte xs ≡ true
 unfolding every
 bytes-every [] h = refl
@@ -73,21 +71,12 @@ bytes-window s at n h i = by (leb (suc i) n) (leb-true (suc i) n) (leb-false (su
 small : (s : List ℕ) (at : ℕ) → Bytes s → ltb (numberAt s at 2) 65536 ≡ true
 small s at h = lt-ltb (numberAt s at 2) 65536 (omega (arith, h at, h (at + 1)))
 
--- the record size and the header's place in it, out of all tests of sizes
-pub sizes : (p : Plan) → sizesOk p ≡ true → (p .size ≤ maxBytes) × (p .header ≤ p .size)
-sizes p z =
-    let outer = both (leb (p .srcBase) maxBytes && leb (p .size) maxBytes) ((leb (p .header) maxHeader && leb (p .header) (p .size)) && leb (p .base) (p .size)) z in
-    let small = both (leb (p .srcBase) maxBytes) (leb (p .size) maxBytes) (outer .0) in
-    let inner = both (leb (p .header) maxHeader && leb (p .header) (p .size)) (leb (p .base) (p .size)) (outer .1) in
-    let header = both (leb (p .header) maxHeader) (leb (p .header) (p .size)) (inner .0) in
-    (leb-true (p .size) maxBytes (small .1), leb-true (p .header) (p .size) (header .1))
-
 body-ok : (slot : List ℕ) → length slot ≡ slotSize → Bytes slot → sizesOk (planIn slot) ≡ true → bodyOk (planIn slot) ≡ true
 body-ok slot e h z =
-    let s = sizes (planIn slot) z in
+    let s = sized (planIn slot) z in
     let d = length-drop bodyFrom slot in
-    let t = length-take-le (sizeIn slot - headerIn slot) (drop bodyFrom slot) (omega (arith, s .0)) in
-    let n : headerIn slot + length (window slot bodyFrom (sizeIn slot - headerIn slot)) ≡ sizeIn slot = omega (arith, s .1) in
+    let t = length-take-le (sizeIn slot - headerIn slot) (drop bodyFrom slot) (omega (arith, s .size)) in
+    let n : headerIn slot + length (window slot bodyFrom (sizeIn slot - headerIn slot)) ≡ sizeIn slot = omega (arith, s .header) in
     rw (eq-eqb (headerIn slot + length (window slot bodyFrom (sizeIn slot - headerIn slot))) (sizeIn slot) n)
     (bytes-every (window slot bodyFrom (sizeIn slot - headerIn slot)) (bytes-window slot bodyFrom (sizeIn slot - headerIn slot) h))
 

@@ -1,2 +1,4 @@
+pub mod Kept
 pub mod Checking
 pub mod Packing
+pub mod Unpacked

@@ -15,6 +15,7 @@ use Rattle.lent.specs.Bytes.{byteAt}
 use Rattle.lent.specs.Scan.{gather, every}
 use Rattle.lent.proofs.Scan.{both}
 use Rattle.lent.proofs.Stored.{get-below, get-in}
+use Rattle.catalogue.proofs.Valid.{integer-width}
 use Rattle.catalogue.specs.Catalogue.{catalogueOk, classOf, widthOf, arrayFlag, extensionFlag, padding}
 use Rattle.field.specs.Field.{fieldAt, endOf}
 use Rattle.field.specs.declared.FieldDef.{FieldDef}
@@ -31,7 +32,7 @@ use Rattle.builders.specs.declared.Placed.the-variants.{At, Refused}
 use Rattle.sound.specs.Sound.{Sound, fieldsIn, lengthsIn, short, tiles, plain, after, stateAfter}
 use Rattle.sound.proofs.Rows.{same-fields, last-one, same-heads, row-offset, row-size, row-type, row-flags, row-reserved}
 use Rattle.sound.proofs.Tiles.{tiles-more, every-more}
-use Rattle.sound.proofs.Widths.{or-keeps, padding-class, integer-width, size-there, width-kept}
+use Rattle.sound.proofs.Widths.{or-keeps, padding-class, size-there, width-kept}
 
 module _ (cat : List ℕ) (holder : Holder) where
   pub fresh-sound : (t n : List ℕ) → Sound cat holder (building (fresh holder) t n)

@@ -95,21 +95,19 @@ module _ (t : List ℕ) (at : ℕ) (f : FieldDef) (room : at + 16 ≤ length t) 
   unfolding rowOf
   byte j h = get-in (rowOf f) t at j (omega arith) (omega arith)
 
+  -- two bytes of the row, as a number
+  two : (j v : ℕ) → j + 1 < 16 → v < 65536 → byteAt (rowOf f) j ≡ v % 256 → byteAt (rowOf f) (j + 1) ≡ v / 256 % 256 → numberAt (sets t at (rowOf f)) (at + j) 2 ≡ v
+  two j v k h low high =
+      let e : at + j + 1 ≡ at + (j + 1) = omega arith in
+      rw (e, byte j (omega arith), byte (j + 1) k, low, high) (omega arith)
+
   pub row-offset : f .offset < 65536 → fieldAt (sets t at (rowOf f)) at .offset ≡ f .offset
   unfolding fieldAt rowOf
-  row-offset h =
-      let e : at + 2 + 1 ≡ at + 3 = omega arith in
-      let b : byteAt (sets t at (rowOf f)) (at + 2) ≡ f .offset % 256 = byte 2 (omega arith) in
-      let d : byteAt (sets t at (rowOf f)) (at + 3) ≡ f .offset / 256 % 256 = byte 3 (omega arith) in
-      rw (e, b, d) (omega arith)
+  row-offset h = two 2 (f .offset) (omega arith) h refl refl
 
   pub row-size : f .size < 65536 → fieldAt (sets t at (rowOf f)) at .size ≡ f .size
   unfolding fieldAt rowOf
-  row-size h =
-      let e : at + 4 + 1 ≡ at + 5 = omega arith in
-      let b : byteAt (sets t at (rowOf f)) (at + 4) ≡ f .size % 256 = byte 4 (omega arith) in
-      let d : byteAt (sets t at (rowOf f)) (at + 5) ≡ f .size / 256 % 256 = byte 5 (omega arith) in
-      rw (e, b, d) (omega arith)
+  row-size h = two 4 (f .size) (omega arith) h refl refl
 
   pub row-type : fieldAt (sets t at (rowOf f)) at .«type_id» ≡ f .«type_id»
   unfolding fieldAt rowOf

@@ -1,18 +1,17 @@
--- What a valid catalogue and the flags give: padding is no integer, an integer has a width, and a flag more leaves an array one. Assumes nothing.
+-- What a valid catalogue and the flags give: the padding id is padding, and a flag more leaves an array one. Assumes nothing.
 use mathlib.Core.Path.{_≡_, refl}
 use mathlib.Core.Bool.{Bool, true, false, cond, not, _&&_, _||_, false≢true}
 use mathlib.Core.List.{List}
-use mathlib.Core.Logic.{_⊎_, inl, inr}
 use Prim.Native.Nat.{ℕ, zero, suc, _+_, _*_, _/_, _%_, _≤_, _<_, min, max}
 use native.Mathlib.Omega.{arith}
 use borrow.Author.Tests.{ne-eqb, eqb-true, eqb-false, leb-true}
 use lib.Bits.{bitAnd, bitOr, and-step, or-step, and-zero-l}
 use lib.Dec.{leb, eqb}
-use lib.ListN.{length}
 use Rattle.lent.specs.Bytes.{byteAt}
-use Rattle.lent.specs.Scan.{gather, every, tally}
-use Rattle.lent.proofs.Scan.{both, nth}
-use Rattle.catalogue.specs.Catalogue.{classOf, widthOf, kinds, within, firstOf, idOf, padding, kindOk, catalogueOk, flagsOk, arrayFlag, extensionFlag, oneEach, othersOk, unsigned, signed, countClass, decimal, string, struct}
+use Rattle.lent.specs.Scan.{gather, tally}
+use Rattle.lent.proofs.Scan.{both}
+use Rattle.catalogue.proofs.Valid.{valid}
+use Rattle.catalogue.specs.Catalogue.{isWidth, classOf, within, firstOf, idOf, padding, catalogueOk, countClass, decimal, string, struct}
 
 -- ---- flags
 
@@ -61,34 +60,12 @@ module _ (c : List ℕ) where
         go false y n e ih = ih (skip (within 96 111 (byteAt c id)) (both (leb 96 (byteAt c id)) (leb (byteAt c id) 111)) (n refl) e)
 
   module _ (ok : catalogueOk c ≡ true) where
-    tests : (every kindOk (kinds c) ≡ true) × (othersOk c ≡ true)
-    unfolding catalogueOk
-    tests =
-        let last = oneEach c signed && othersOk c in
-        let ints = oneEach c unsigned && (oneEach c signed && othersOk c) in
-        let all = every kindOk (kinds c) && ints in
-        let a = both (eqb (length c) 262) (flagsOk (arrayFlag c) (extensionFlag c) && all) ok .1 in
-        let b = both (flagsOk (arrayFlag c) (extensionFlag c)) all a .1 in
-        let d = both (every kindOk (kinds c)) ints b in
-        let e = both (oneEach c unsigned) last (d .1) .1 in
-        (d .0, both (oneEach c signed) (othersOk c) e .1)
-
     pub padding-class : classOf c (idOf c padding) ≡ padding
     padding-class =
         let rest = eqb (countClass c struct) 1 && eqb (countClass c padding) 1 in
-        let a = both (eqb (countClass c decimal) 1) (eqb (countClass c string) 2 && rest) (tests .1) .1 in
+        let a = both (eqb (countClass c decimal) 1) (eqb (countClass c string) 2 && rest) (valid c ok .others) .1 in
         let b = both (eqb (countClass c string) 2) rest a .1 in
         found 0 255 (eqb-true (countClass c padding) 1 (both (eqb (countClass c struct) 1) (eqb (countClass c padding) 1) b .1))
-
-    -- an integer has a width
-    pub integer-width : (id : ℕ) → id < 256 → (classOf c id ≡ unsigned) ⊎ (classOf c id ≡ signed) → widthOf c id ≡ 0 → ⊥
-    integer-width id h k w = wide (byteAt c id) (rw (ez) at (nth kindOk (byteAt c) 1 0 256 id h (tests .0))) k w where
-      ez : 0 + 1 * id ≡ id
-      ez = omega arith
-
-      wide : (b : ℕ) → kindOk b ≡ true → (b / 16 ≡ 1) ⊎ (b / 16 ≡ 2) → b % 16 ≡ 0 → ⊥
-      wide b e (inl k) w = false≢true (rw (w, k) at e)
-      wide b e (inr k) w = false≢true (rw (w, k) at e)
 
 -- ---- the size of a field that is taken
 
@@ -97,7 +74,7 @@ size-there zero rest e = absurd (false≢true e)
 size-there (suc size) rest e = omega arith
 
 -- an integer that is no array has its width, also when a flag more was set: x and y are what the flags share with the array flag
-module _ (class w x y size : ℕ) (more : x ≤ y) (wide : (class ≡ 1) ⊎ (class ≡ 2) → w ≡ 0 → ⊥) where
+module _ (class w x y size : ℕ) (more : x ≤ y) (wide : (eqb class 1 || eqb class 2) ≡ true → isWidth w ≡ true) where
   never : (a : Bool) → (not (a && false) || eqb size w) ≡ true
   never true = refl
   never false = refl
@@ -107,7 +84,10 @@ module _ (class w x y size : ℕ) (more : x ≤ y) (wide : (class ≡ 1) ⊎ (cl
   or-true false = refl
 
   no-integer : w ≡ 0 → (eqb class 1 || eqb class 2) ≡ false
-  no-integer e = rw (ne-eqb class 1 (λ k. wide (inl k) e), ne-eqb class 2 (λ k. wide (inr k) e))
+  no-integer e = go (eqb class 1 || eqb class 2) wide where
+    go : (p : Bool) → (p ≡ true → isWidth w ≡ true) → p ≡ false
+    go true h = absurd (false≢true (rw e at (h refl)))
+    go false h = refl
 
   pub width-kept : (not (eqb size 0) && (not (eqb x 0) || (eqb w 0 || eqb size w))) ≡ true
       → (not ((eqb class 1 || eqb class 2) && not (not (eqb y 0))) || eqb size w) ≡ true

@@ -2,20 +2,18 @@
 use mathlib.Core.Path.{_≡_, refl, sym, ap, _∙_}
 use mathlib.Core.Bool.{Bool, true, false, cond, not, _&&_}
 use mathlib.Core.List.{List, [], _∷_, map}
-use Prim.Native.Nat.{ℕ, zero, suc, _+_, _-_, _≤_, _<_, min, max}
-use native.Mathlib.Numerals.{add-one}
+use Prim.Native.Nat.{ℕ, _+_, _≤_, _<_, min, max}
 use native.Mathlib.Omega.{arith}
 use borrow.Author.Tests.{leb-true, le-leb, lt-leb, le-ltb}
-use lib.Dec.{leb, ltb}
-use lib.ListN.{length, getD, take, drop, drop-of-length-le, length-take}
-use lib.Seq.{drop-cons, getD-take, length-take-le}
+use lib.Dec.{leb}
+use lib.ListN.{length, getD, take, drop}
 use Rattle.lent.specs.Scan.{every}
-use Rattle.lent.proofs.Scan.{both}
+use Rattle.lent.proofs.Scan.{both, entry, no-entry}
 use Rattle.field.specs.Field.{endOf}
 use Rattle.field.specs.declared.FieldDef.{FieldDef}
 use Rattle.order.proofs.Kept.{every-insert, every-sorted}
 use Rattle.order.specs.Order.{insertBy, sortBy, offsetOf, byOffset}
-use Rattle.table.specs.Table.{shareByte, clearOf, apart}
+use Rattle.table.specs.Table.{clearOf, apart}
 use Rattle.table.specs.Parts.{chain}
 
 -- ---- fields that follow each other lie apart
@@ -79,11 +77,7 @@ module _ (F : ℕ → FieldDef) (low k n : ℕ) (o : List ℕ) (all : Bool) (so 
   module _ (fits : n ≤ length o) (h : k < n) where
     turn : (leb low (F (getD o k 0) .offset) && chain (endOf (F (getD o k 0))) (map F (drop (k + 1) (take n o)))) ≡ all
     unfolding chain
-    turn =
-        let l : k < length (take n o) = omega (arith, length-take-le n o fits) in
-        let e : drop k (take n o) ≡ getD o k 0 ∷ drop (k + 1) (take n o) =
-        rw (add-one k, ← getD-take n o k 0 h) (drop-cons (take n o) k 0 l) in
-        rw e at so
+    turn = rw (entry o n k fits h) at so
 
     pub chain-stops : F (getD o k 0) .offset < low → false ≡ all
     chain-stops g = rw (lt-leb _ _ g) at turn
@@ -93,6 +87,4 @@ module _ (F : ℕ → FieldDef) (low k n : ℕ) (o : List ℕ) (all : Bool) (so 
 
   pub chain-ends : n ≤ k → true ≡ all
   unfolding chain
-  chain-ends h =
-      let l : length (take n o) ≤ k = simp length-take (omega arith) in
-      rw (drop-of-length-le (take n o) l) at so
+  chain-ends h = rw (no-entry o n k h) at so

@@ -1,21 +1,21 @@
 -- A record that has a hash is one of the layout's. Assumes nothing.
-use mathlib.Core.Path.{_≡_, refl, sym, ap, _∙_}
+use mathlib.Core.Path.{_≡_, refl}
 use mathlib.Core.Bool.{Bool, true, false, cond}
 use mathlib.Core.List.{List}
-use Prim.Native.Nat.{ℕ, _+_, _*_, _<_}
+use Prim.Native.Nat.{ℕ, _<_}
 use native.Mathlib.Omega.{arith}
 use borrow.Author.Tests.{ltb-true}
 use lib.Dec.{ltb}
 use Rattle.layout.specs.Layout.{countOf}
 use Rattle.layout.specs.declared.block.Holder.the-variants.{Record}
-use Rattle.admission.specs.Admission.{admitOf}
+use Rattle.admission.specs.Admission.{admitOf, orRefused}
 use Rattle.admission.specs.declared.Admitted.{Admitted}
 use Rattle.admission.specs.declared.Admitted.the-variants.{Fine, Refused}
-use Rattle.tuppenceowl.specs.Answers.{orSummed, summedOf}
+use Rattle.tuppenceowl.specs.Answers.{summedOf}
 use Rattle.tuppenceowl.specs.declared.hashing.Summed.{Summed}
-use Rattle.tuppenceowl.specs.declared.hashing.Summed.the-variants.{Hash, NoRecord}
+use Rattle.tuppenceowl.specs.declared.hashing.Summed.the-variants.{Hash, NoRecord, Refused as Unsummed}
 
-chosen : (a : Admitted) (p : Bool) (s : Summed) (fp visits : ℕ) → Hash fp visits ≡ orSummed a (cond p s NoRecord) → p ≡ true
+chosen : (a : Admitted) (p : Bool) (s : Summed) (fp visits : ℕ) → Hash fp visits ≡ orRefused Unsummed a (cond p s NoRecord) → p ≡ true
 chosen Fine true s fp visits e = refl
 chosen Fine false s fp visits e = absurd (let z : _≡_ {A = ℕ} 0 1 = cc in omega arith)
 chosen (Refused refusal) p s fp visits e = absurd (let z : _≡_ {A = ℕ} 0 1 = cc in omega arith)

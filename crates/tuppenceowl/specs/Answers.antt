@@ -10,12 +10,10 @@ use Rattle.lent.specs.Bytes.{hasWindow}
 use Rattle.lent.specs.Scan.{every}
 use Rattle.field.specs.Field.{fieldAt, fieldsOf}
 use Rattle.table.specs.Table.{reservedZero}
-use Rattle.layout.specs.Layout.{countOf, recordAt}
+use Rattle.layout.specs.Layout.{countOf, recordOf}
 use Rattle.layout.specs.Size.{recordSize}
 use Rattle.layout.specs.declared.block.Holder.the-variants.{Record}
-use Rattle.admission.specs.Admission.{admitOf}
-use Rattle.admission.specs.declared.Admitted.{Admitted}
-use Rattle.admission.specs.declared.Admitted.the-variants.{Fine, Refused}
+use Rattle.admission.specs.Admission.{admitOf, orRefused}
 use Rattle.hash.specs.Hash.{hashOf}
 use Rattle.hash.specs.declared.Hashed.{Hashed}
 use Rattle.hash.specs.declared.Hashed.the-variants.{Sum, Refused as Unhashed}
@@ -30,29 +28,20 @@ use Rattle.tuppenceowl.specs.declared.Windowed.the-variants.{Within, Pas
 use Rattle.tuppenceowl.specs.declared.Found.{Found}
 use Rattle.tuppenceowl.specs.declared.Found.the-variants.{Field, NoField, Refused as Unfound}
 
--- the refusal of admission, else what follows
-abbrev pub orSized : Admitted → Sized → Sized
-orSized Fine rest = rest
-orSized (Refused refusal) rest = Unsized refusal
-
 -- the size of record k of a layout, counted from 0
 unfoldable pub sizedOf : List ℕ → List ℕ → ℕ → Sized
 sizedOf cat l k =
-    orSized (admitOf cat l) (cond (ltb k (countOf Record l)) (Bytes (recordSize (recordAt l (8 + 72 * k)))) NoRecord)
+    orRefused Unsized (admitOf cat l) (cond (ltb k (countOf Record l)) (Bytes (recordSize (recordOf l k))) NoRecord)
 
 -- the hash of record k, with the visits that it took
 abbrev pub asSummed : Hashed → Summed
 asSummed (Sum fp visits) = Hash fp visits
 asSummed (Unhashed refusal) = Unsummed refusal
 
-abbrev pub orSummed : Admitted → Summed → Summed
-orSummed Fine rest = rest
-orSummed (Refused refusal) rest = Unsummed refusal
-
 unfoldable pub summedOf : List ℕ → List ℕ → ℕ → ℕ → Summed
 summedOf cat l k budget =
-    orSummed (admitOf cat l)
-    (cond (ltb k (countOf Record l)) (asSummed (hashOf cat l budget (fieldsOf (recordAt l (8 + 72 * k) .table)))) NoSum)
+    orRefused Unsummed (admitOf cat l)
+    (cond (ltb k (countOf Record l)) (asSummed (hashOf cat l budget (fieldsOf (recordOf l k .table)))) NoSum)
 
 -- is it the hash that record k stores?
 abbrev pub asBooted : ℕ → Summed → Booted
@@ -61,7 +50,7 @@ asBooted stored NoSum = NoneToBoot
 asBooted stored (Unsummed refusal) = Unbooted refusal
 
 abbrev pub bootedOf : List ℕ → List ℕ → ℕ → Booted
-bootedOf cat l k = asBooted (recordAt l (8 + 72 * k) .hash) (summedOf cat l k defaultBudget)
+bootedOf cat l k = asBooted (recordOf l k .hash) (summedOf cat l k defaultBudget)
 
 -- where a window starts and ends, if it lies inside
 abbrev pub windowedOf : List ℕ → ℕ → ℕ → Windowed

@@ -1,14 +1,12 @@
 -- What the verdict and the lookups answer, of any bytes and numbers.
-use Prim.Native.Nat.{ℕ, _+_, _*_}
+use Prim.Native.Nat.{ℕ}
 use mathlib.Core.Bool.{cond}
 use mathlib.Core.List.{List}
 use lib.Dec.{ltb}
-use Rattle.layout.specs.Layout.{countOf}
+use Rattle.layout.specs.Layout.{countOf, recordHead}
 use Rattle.layout.specs.Find.{lastOf, atPlace}
 use Rattle.layout.specs.declared.block.Holder.the-variants.{Record}
-use Rattle.admission.specs.Admission.{admitOf, admitBoth}
-use Rattle.admission.specs.declared.Admitted.{Admitted}
-use Rattle.admission.specs.declared.Admitted.the-variants.{Fine, Refused}
+use Rattle.admission.specs.Admission.{admitOf, admitBoth, orRefused}
 use Rattle.compare.specs.Compare.{verdictOf}
 use Rattle.index.specs.Index.{byId, byName}
 use Rattle.index.specs.declared.Lookup.{Lookup}
@@ -18,31 +16,22 @@ use Rattle.tuppenceowl.specs.declared.comparing.Judged.the-variants.{Is,
 use Rattle.tuppenceowl.specs.declared.Found.{Found}
 use Rattle.tuppenceowl.specs.declared.Found.the-variants.{Field, NoField, Refused as Unfound}
 
--- the refusal of admission, else what follows
-abbrev pub orJudged : Admitted → Judged → Judged
-orJudged Fine rest = rest
-orJudged (Refused refusal) rest = Unjudged refusal
-
 -- the verdict on record k of a stream's layout, counted from 0
 unfoldable pub judgedOf : List ℕ → List ℕ → ℕ → List ℕ → Judged
 judgedOf cat s k c =
-    orJudged (admitBoth cat s c) (cond (ltb k (countOf Record s)) (Is (verdictOf cat s (8 + 72 * k) c)) NoRecord)
+    orRefused Unjudged (admitBoth cat s c) (cond (ltb k (countOf Record s)) (Is (verdictOf cat s (recordHead k) c)) NoRecord)
 
 -- the verdict of an rtype: that on the last record of it
 unfoldable pub judgedRtype : List ℕ → List ℕ → ℕ → List ℕ → Judged
 judgedRtype cat s rtype c =
-    orJudged (admitBoth cat s c) (atPlace (lastOf s rtype) NoRecord (λ h. Is (verdictOf cat s h c)))
+    orRefused Unjudged (admitBoth cat s c) (atPlace (lastOf s rtype) NoRecord (λ h. Is (verdictOf cat s h c)))
 
 abbrev pub asFound : Lookup → Found
 asFound (Def f) = Field f
 asFound Missing = NoField
 
-abbrev pub orFound : Admitted → Found → Found
-orFound Fine rest = rest
-orFound (Refused refusal) rest = Unfound refusal
-
 unfoldable pub foundById : List ℕ → List ℕ → ℕ → ℕ → Found
-foundById cat l rtype id = orFound (admitOf cat l) (asFound (byId cat l rtype id))
+foundById cat l rtype id = orRefused Unfound (admitOf cat l) (asFound (byId cat l rtype id))
 
 unfoldable pub foundByName : List ℕ → List ℕ → ℕ → List ℕ → Found
-foundByName cat l rtype name = orFound (admitOf cat l) (asFound (byName cat l rtype name))
+foundByName cat l rtype name = orRefused Unfound (admitOf cat l) (asFound (byName cat l rtype name))

@@ -4,10 +4,11 @@ use borrow.Author.Needs.{needs}
 use lib.ListN.{length}
 use mathlib.Core.Path.{_≡_}
 use native.Mathlib.Omega.{arith}
-use Rattle.calls.proofs.Ends.{width-found, width-goes}
 use Rattle.calls.specs.Calls.{widest}
+use Rattle.catalogue.specs.Catalogue.{widthOf}
 use Rattle.field.specs.Field.{fieldAt, fieldsOf}
 use Rattle.lent.specs.Scan.{gather}
+use Rattle.lent.proofs.Scan.{highest-found, highest-goes}
 use Rattle.calls.proofs.widest.Statement.{statement}
 use Rattle.calls.proofs.widest.Tie as tie
 
@@ -44,11 +45,11 @@ loop-again c = (
   omega arith,
   omega arith,
   rw (c .greater .ensures, c .before .width .ensures .0, c .before .before .field-in .ensures)
-      (width-goes (c .before .before .before .before .before .before .before .args .cat .now) (fieldAt (c .before .before .before .before .before .before .before .args .t .now)) (c .before .before .before .before .loop .at) (c .before .before .before .before .loop .left) (c .before .before .before .before .loop .most) _ (c .before .before .before .before .loop .inv .2) (omega arith)),
+      (highest-goes (fieldAt (c .before .before .before .before .before .before .before .args .t .now)) 16 (c .before .before .before .before .loop .at) (c .before .before .before .before .loop .left) _ (c .before .before .before .before .loop .most) _ (c .before .before .before .before .loop .inv .2) (omega arith)),
 )
 
 returns : tie.Need-returns Inv-loop μ-loop
-returns c = (width-found (c .before .before .before .before .args .cat .now) (fieldAt (c .before .before .before .before .args .t .now)) (c .before .loop .at) (c .before .loop .left) (c .before .loop .most) _ (c .before .loop .inv .2) (omega arith), omega arith)
+returns c = (highest-found (fieldAt (c .before .before .before .before .args .t .now)) 16 (c .before .loop .at) (c .before .loop .left) (λ f. widthOf (c .before .before .before .before .args .cat .now) (f .«type_id»)) (c .before .loop .most) _ (c .before .loop .inv .2) (omega arith), omega arith)
 
 pub widest-spec : {M : Type 1} → statement M
 widest-spec =

@@ -1,11 +1,12 @@
 -- Sizes, counts, and then what is left of the two orders decides.
-use Prim.Native.Nat.{_-_, _/_, _≤_}
+use Prim.Native.Nat.{_*_, _-_, _/_, _≤_}
 use borrow.Author.Needs.{needs}
 use borrow.Author.Tests.{not-false, not-true}
 use lib.ListN.{drop, length, take}
 use mathlib.Core.List.{map}
 use mathlib.Core.Path.{_∙_, _≡_, ap, refl, sym}
 use native.Mathlib.Omega.{arith}
+use Rattle.limits.specs.Limits.{maxStructFields}
 use Rattle.compare.proofs.Equal.{counts-differ, order-ends, order-goes, order-stops, orders, sizes-differ}
 use Rattle.compare.specs.Compare.{eqExceptDefIndex, structEq}
 use Rattle.field.specs.Field.{fieldAt}
@@ -16,7 +17,7 @@ use Rattle.compare.proofs.struct_eq.Tie as tie
 
 abbrev Inv-loop : tie.InvT-loop
 Inv-loop s h c g haves wants n a b k₀ k =
-    (k ≤ n) × (n ≤ length a) × (n ≤ length b) × (n ≤ 32)
+    (k ≤ n) × (n ≤ length a) × (n ≤ length b) × (n ≤ maxStructFields)
     × (alike eqExceptDefIndex (map (fieldAt haves) (drop k (take n a))) (map (fieldAt wants) (drop k (take n b)))
     ≡ structEq (structAt s h) (structAt c g))
 
@@ -46,7 +47,7 @@ slice-aggregate-by-offset c = search needs
 
 by-offset-requires : tie.Need-by-offset-requires Inv-loop μ-loop
 by-offset-requires c κs =
-    let z : length (c .before .before .before .table-at .result .now) ≤ 512 = rw (c .before .before .before .table-at .ensures) (c .before .before .before .before .before .before .before .before .before .pre .2) in
+    let z : length (c .before .before .before .table-at .result .now) ≤ 16 * maxStructFields = rw (c .before .before .before .table-at .ensures) (c .before .before .before .before .before .before .before .before .before .pre .2) in
     (omega arith, omega arith)
 
 slice-aggregate-by-offset-2 : tie.Need-slice-aggregate-by-offset-2 Inv-loop μ-loop
@@ -54,12 +55,12 @@ slice-aggregate-by-offset-2 c = search needs
 
 by-offset-requires-2 : tie.Need-by-offset-requires-2 Inv-loop μ-loop
 by-offset-requires-2 c κs =
-    let z : length (c .before .before .before .before .before .before .table-at .result .now) ≤ 512 = rw (c .before .before .before .before .before .before .table-at .ensures) (c .before .before .before .before .before .before .before .before .before .before .before .before .pre .2) in
+    let z : length (c .before .before .before .before .before .before .table-at .result .now) ≤ 16 * maxStructFields = rw (c .before .before .before .before .before .before .table-at .ensures) (c .before .before .before .before .before .before .before .before .before .before .before .before .pre .2) in
     (omega arith, omega arith)
 
 loop-holds : tie.Need-loop-holds Inv-loop μ-loop
 loop-holds c =
-    let z : length (c .before .before .before .before .before .before .before .before .table-at .result .now) ≤ 512 = rw (c .before .before .before .before .before .before .before .before .table-at .ensures) (c .before .before .before .before .before .before .before .before .before .before .before .before .before .before .pre .2) in (
+    let z : length (c .before .before .before .before .before .before .before .before .table-at .result .now) ≤ 16 * maxStructFields = rw (c .before .before .before .before .before .before .before .before .table-at .ensures) (c .before .before .before .before .before .before .before .before .before .before .before .before .before .before .pre .2) in (
       omega arith,
       omega (arith, c .before .before .before .before .by-offset .ensures .1),
       omega (arith, c .before .by-offset2 .ensures .1),

@@ -5,6 +5,7 @@ use Prim.Native.Nat.{_+_, _-_, _*_, _/_, _≤_}
 use native.Mathlib.Omega.{arith}
 use lib.ListN.{length, take, drop}
 use borrow.Author.Needs.{needs}
+use Rattle.limits.specs.Limits.{maxFields}
 use Rattle.hash.specs.Parts.{told}
 use Rattle.hash.specs.Walk.{walkFields, walkTable}
 use Rattle.hash.proofs.Walks.{taken, taken-walks, few-entered, walk-goes, walk-stops, walk-ends, walk-starts, too-deep}
@@ -163,7 +164,7 @@ hash-field-returns-3 t c =
 
 abbrev hash-table-Inv-loop : hash-table-lts.InvT-loop
 hash-table-Inv-loop cat l t levels budget table start used n order fp₀ visits₀ k₀ fp visits k =
-    (k ≤ n) × (n ≤ length order) × (n ≤ 128)
+    (k ≤ n) × (n ≤ length order) × (n ≤ maxFields)
     × (told (walkFields bytesStep cat l budget (walkTable bytesStep cat l budget (levels - 1)) (map (fieldAt table) (drop k (take n order))) fp visits)
     ≡ told (walkTable bytesStep cat l budget levels (fieldsOf table) start used))
 

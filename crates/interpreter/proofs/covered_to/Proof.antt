@@ -1,7 +1,7 @@
 -- The first step decides, if there is one.
-use Rattle.interpreter.proofs.Kept.{kept}
 use Rattle.interpreter.proofs.Laid.{covers, covers-not}
 use Rattle.lent.proofs.Scan.{none}
+use Rattle.slot.proofs.Kept.{kept-slot}
 use Rattle.slot.specs.Slot.{countIn, headerIn, stepsFrom}
 use Rattle.step.specs.Packed.{stepAt}
 use borrow.Author.Needs.{needs}
@@ -11,10 +11,10 @@ use Rattle.interpreter.proofs.covered_to.Statement.{statement}
 use Rattle.interpreter.proofs.covered_to.Tie as tie
 
 number-in-requires : tie.Need-number-in-requires
-number-in-requires c κs = let k = kept (c .before .before .args .slot .now) (c .before .before .pre) in omega (arith, k .whole)
+number-in-requires c κs = let k = kept-slot (c .before .before .args .slot .now) (c .before .before .pre) in omega (arith, k .long)
 
 number-in-requires-2 : tie.Need-number-in-requires-2
-number-in-requires-2 c κs = let k = kept (c .before .before .before .args .slot .now) (c .before .before .before .pre) in omega (arith, k .whole)
+number-in-requires-2 c κs = let k = kept-slot (c .before .before .before .args .slot .now) (c .before .before .before .pre) in omega (arith, k .long)
 
 returns : tie.Need-returns
 returns c =
@@ -22,7 +22,7 @@ returns c =
 
 step-in-requires : tie.Need-step-in-requires
 step-in-requires c κs =
-    let k = kept (c .before .before .before .before .before .args .slot .now) (c .before .before .before .before .before .pre) in omega (arith, k .whole)
+    let k = kept-slot (c .before .before .before .before .before .args .slot .now) (c .before .before .before .before .before .pre) in omega (arith, k .long)
 
 target-of-requires : tie.Need-target-of-requires
 target-of-requires c κs = search needs

@@ -6,10 +6,10 @@ use lib.ListN.{length}
 use mathlib.Core.Bool.{true}
 use mathlib.Core.Path.{_∙_, _≡_, refl}
 use native.Mathlib.Omega.{arith}
-use Rattle.interpreter.proofs.Kept.{kept}
 use Rattle.interpreter.proofs.Runs.{all-fit, next-fits, run-end, run-turn}
 use Rattle.interpreter.specs.Run.{fits, run}
 use Rattle.lent.specs.Scan.{every}
+use Rattle.slot.proofs.Kept.{kept-slot}
 use Rattle.slot.specs.Slot.{countIn, stepsFrom}
 use Rattle.step.specs.Packed.{stepsAt}
 use Rattle.interpreter.proofs.run_steps.Statement.{statement}
@@ -24,12 +24,12 @@ abbrev μ-loop : tie.MeasureT-loop
 μ-loop slot src dst₀ at₀ left₀ dst at left = left
 
 number-in-requires : tie.Need-number-in-requires Inv-loop μ-loop
-number-in-requires c κs = let k = kept (c .before .before .before .args .slot .now) (c .before .before .before .pre .0) in omega (arith, k .whole)
+number-in-requires c κs = let k = kept-slot (c .before .before .before .args .slot .now) (c .before .before .before .pre .0) in omega (arith, k .long)
 
 loop-holds : tie.Need-loop-holds Inv-loop μ-loop
 loop-holds c =
-    let k = kept (c .before .before .before .before .args .slot .now) (c .before .before .before .before .pre .0) in
-    rw (c .number-in .ensures .0) (omega (arith, k .whole, k .count), refl, all-fit _ _ _ _ (c .before .before .before .before .pre .1) (k .steps), refl)
+    let k = kept-slot (c .before .before .before .before .args .slot .now) (c .before .before .before .before .pre .0) in
+    rw (c .number-in .ensures .0) (omega (arith, k .long, k .few), refl, all-fit _ _ _ _ (c .before .before .before .before .pre .1) (k .plan .steps), refl)
 
 step-in-requires : tie.Need-step-in-requires Inv-loop μ-loop
 step-in-requires c κs = omega arith

@@ -10,7 +10,8 @@ use Rattle.admission.specs.Admission.{layoutOk}
 use Rattle.layout.specs.Layout.{countOf}
 use Rattle.layout.specs.Shape.{shapeOk}
 use Rattle.planner.proofs.Passing.{both-there}
-use Rattle.planner.proofs.Records.{base-small, few-fields, size-small}
+use Rattle.admission.proofs.Records.{size-small}
+use Rattle.layout.proofs.Shapes.{base-in-record, few-in-record}
 use Rattle.planner.specs.Planner.{afterPlan, plannedOf}
 use Rattle.planner.specs.declared.select.Selected.the-variants.{Record}
 use Rattle.table.specs.declared.Rule.the-variants.{Bounds}
@@ -50,13 +51,13 @@ between-requires c κs =
     let to : a .to < countOf Record t = rw (← c .before .before .before .before .count-of2 .ensures .0) (there .1) in
     let shaped = front shapeOk s (t ∷ []) (fine .shaped) in
     let shaped′ = front shapeOk t [] (rest shapeOk s (t ∷ []) (fine .shaped)) in
-    let bounds = front (layoutOk Bounds (a .cat .now)) t [] (rest (layoutOk Bounds (a .cat .now)) s (t ∷ []) (fine .bounds)) in (
+    let bounds = front (layoutOk Bounds (a .cat .now)) t [] (rest (layoutOk Bounds (a .cat .now)) s (t ∷ []) (fine .rules Bounds)) in (
       omega (arith, c .before .before .record-head .ensures .1),
       omega (arith, c .before .record-head2 .ensures .1),
-      rw (c .before .before .record-head .ensures .0) (base-small (a .cat .now) s (a .k) shaped from),
-      rw (c .before .record-head2 .ensures .0) (size-small (a .cat .now) t (a .to) shaped′ to bounds),
-      rw (c .before .record-head2 .ensures .0) (few-fields (a .cat .now) t (a .to) shaped′ to),
-      rw (c .before .before .record-head .ensures .0) (few-fields (a .cat .now) s (a .k) shaped from),
+      rw (c .before .before .record-head .ensures .0) (base-in-record s (a .k) shaped from),
+      rw (c .before .record-head2 .ensures .0) (size-small (a .cat .now) t (a .to) to shaped′ bounds),
+      rw (c .before .record-head2 .ensures .0) (few-in-record t (a .to) shaped′ to),
+      rw (c .before .before .record-head .ensures .0) (few-in-record s (a .k) shaped from),
     )
 
 returns : tie.Need-returns

@@ -5,9 +5,9 @@ use native.Mathlib.Omega.{arith}
 use lib.ListN.{length}
 use borrow.Author.Needs.{needs}
 use Rattle.layout.specs.Size.{lastEnd}
-use Rattle.layout.proofs.Ends.{end-goes, end-found}
 use Rattle.lent.specs.Scan.{gather}
-use Rattle.field.specs.Field.{fieldAt, fieldsOf}
+use Rattle.lent.proofs.Scan.{highest-goes, highest-found}
+use Rattle.field.specs.Field.{fieldAt, fieldsOf, endOf}
 use Rattle.layout.proofs.size.last_end.Statement.{statement}
 use Rattle.layout.proofs.size.last_end.Tie as tie
 
@@ -44,11 +44,11 @@ loop-again c =
     let l = c .before .before .before .before .loop in (
       omega arith,
       rw (c .greater .ensures, c .before .end-of .ensures .0, c .before .before .field-in .ensures)
-          (end-goes (fieldAt (c .before .before .before .before .before .before .args .t .now)) (l .at) (l .left) (l .end) _ (l .inv .1) (omega arith)),
+          (highest-goes (fieldAt (c .before .before .before .before .before .before .args .t .now)) 16 (l .at) (l .left) endOf (l .end) _ (l .inv .1) (omega arith)),
     )
 
 returns : tie.Need-returns Inv-loop μ-loop
-returns c = end-found (fieldAt (c .before .before .before .args .t .now)) (c .before .loop .at) (c .before .loop .left) (c .before .loop .end) _ (c .before .loop .inv .1) (omega arith)
+returns c = highest-found (fieldAt (c .before .before .before .args .t .now)) 16 (c .before .loop .at) (c .before .loop .left) endOf (c .before .loop .end) _ (c .before .loop .inv .1) (omega arith)
 
 pub last-end-spec : {M : Type 1} → statement M
 last-end-spec =

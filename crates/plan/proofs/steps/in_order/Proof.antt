@@ -5,6 +5,7 @@ use lib.ListN.{length, length-set, take}
 use mathlib.Core.List.{map}
 use mathlib.Core.Path.{_∙_, _≡_, refl, sym}
 use native.Mathlib.Omega.{arith}
+use Rattle.limits.specs.Limits.{maxSteps}
 use Rattle.field.specs.Field.{fieldsOf}
 use Rattle.plan.proofs.Joining.{joinOnto}
 use Rattle.plan.proofs.Planning.{first-step, has-default, joins-last, no-more, one-means, rest, stands-alone, two-means}
@@ -15,7 +16,7 @@ use Rattle.plan.proofs.steps.in_order.Tie as tie
 
 abbrev Inv-next : tie.InvT-next
 Inv-next cat src dst marks order n bases index steps₀ count₀ k₀ steps count k =
-    (k ≤ n) × (count ≤ k) × (length steps ≡ 128)
+    (k ≤ n) × (count ≤ k) × (length steps ≡ maxSteps)
     × (joinOnto (bases .source) (bases .target) (take count steps) (rest cat (fieldsOf src) (wantAt cat marks dst) order n k)
     ≡ joinAll (bases .source) (bases .target) (stepsOf cat (fieldsOf src) (map (wantAt cat marks dst) (take n order))))
 

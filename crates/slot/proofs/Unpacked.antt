@@ -1,24 +1,24 @@
 -- The slot of a plan holds that plan, and is a slot that keeps every rule. Assumes nothing.
 use mathlib.Core.Path.{_≡_, refl, sym, ap, _∙_}
-use mathlib.Core.Bool.{Bool, true, false, cond, not, _&&_}
+use mathlib.Core.Bool.{Bool, true, false, _&&_}
 use mathlib.Core.List.{List, [], _∷_, _++_, append-assoc}
-use Prim.Native.Nat.{ℕ, zero, suc, _+_, _-_, _*_, _/_, _%_, _≤_, _<_}
+use Prim.Native.Nat.{ℕ, zero, suc, _+_, _-_, _*_, _/_, _%_, _≤_}
 use native.Mathlib.Omega.{arith}
-use lib.ListN.{length, getD, take, drop, replicate, length-append, length-replicate}
+use lib.ListN.{length, drop, replicate, length-append, length-replicate}
 use lib.Seq.{getD-append-add, drop-at, take-at, drop-drop}
-use lib.Dec.{eqb, leb, ltb}
+use lib.Dec.{eqb, leb}
 use borrow.Author.Tests.{eq-eqb}
 use Rattle.limits.specs.Limits.{maxBytes, maxSteps}
-use Rattle.lent.specs.Bytes.{byteAt, numberAt, bytesOf, window}
-use Rattle.lent.specs.Scan.{gather, every, places}
+use Rattle.lent.specs.Bytes.{byteAt, numberAt, window}
+use Rattle.lent.specs.Scan.{gather, every}
 use Rattle.step.specs.Packed.{bit, packedOp, packedOf, opAt, stepAt, flagsOk, stepsAt}
 use Rattle.step.specs.declared.Op.{Op}
 use Rattle.step.specs.declared.Op.the-variants.{Copy, Int}
 use Rattle.step.specs.declared.Step.{Step}
 use Rattle.slot.specs.Plan.{Plan, planOk}
-use Rattle.slot.specs.Slot.{slotSize, stepsFrom, bodyFrom, headerIn, sizeIn, countIn, planIn, allFlags, slotOk, filled, packedSteps, headAs, headOf, slotOf}
+use Rattle.slot.specs.Slot.{slotSize, stepsFrom, bodyFrom, headerIn, sizeIn, countIn, planIn, allFlags, slotOk, filled, packedSteps, headOf, slotOf}
+use Rattle.slot.proofs.Kept.{Low, AllLow, Kept, kept, all-low}
 use Rattle.slot.proofs.Packing.{packed-size, steps-size}
-use Rattle.plan_read.proofs.Back.{Low, AllLow, Kept, kept, all-low}
 
 -- the two bytes of a number
 two : (v : ℕ) → v ≤ 65535 → v % 256 + 256 * (v / 256 % 256 + 256 * 0) ≡ v
@@ -109,7 +109,7 @@ module _ (p : Plan) (ok : planOk p ≡ true) where
   k = kept p ok
 
   lows : AllLow (p .steps)
-  lows = all-low (p .steps) (p .header) (p .size) (k .a5) (k .all)
+  lows = all-low (p .steps) (p .header) (p .size) (k .sizes .size) (k .steps)
 
   abbrev stepsRoom : List ℕ
   stepsRoom = filled (16 * maxSteps) (packedSteps (p .steps))
@@ -117,11 +117,11 @@ module _ (p : Plan) (ok : planOk p ≡ true) where
   abbrev bodyRoom : List ℕ
   bodyRoom = filled maxBytes (p .body)
 
-  steps-long : length stepsRoom ≡ 2048
-  steps-long = let s = steps-size (p .steps) in filled-length 2048 (packedSteps (p .steps)) (omega (arith, k .a6))
+  steps-long : length stepsRoom ≡ 16 * maxSteps
+  steps-long = let s = steps-size (p .steps) in filled-length (16 * maxSteps) (packedSteps (p .steps)) (omega (arith, k .few))
 
-  body-long : length bodyRoom ≡ 4096
-  body-long = filled-length 4096 (p .body) (omega (arith, k .a5, k .whole))
+  body-long : length bodyRoom ≡ maxBytes
+  body-long = filled-length maxBytes (p .body) (omega (arith, k .sizes .size, k .whole))
 
   pub slot-long : length (slotOf p) ≡ slotSize
   unfolding slotOf
@@ -139,36 +139,36 @@ module _ (p : Plan) (ok : planOk p ≡ true) where
   unfolding slotOf
   body-in =
       let d : drop bodyFrom (headOf p ++ (stepsRoom ++ bodyRoom)) ≡ bodyRoom =
-      sym (drop-drop 2048 16 (headOf p ++ (stepsRoom ++ bodyRoom))) ∙ rw (drop-at (headOf p) (stepsRoom ++ bodyRoom) 16 refl) (drop-at stepsRoom bodyRoom 2048 steps-long) in
+      sym (drop-drop (16 * maxSteps) stepsFrom (headOf p ++ (stepsRoom ++ bodyRoom))) ∙ rw (drop-at (headOf p) (stepsRoom ++ bodyRoom) stepsFrom refl) (drop-at stepsRoom bodyRoom (16 * maxSteps) steps-long) in
       rw d (take-at (p .body) (replicate (maxBytes - length (p .body)) 0) (p .size - p .header) (omega (arith, k .whole)))
 
   n0 : numberAt (slotOf p) 0 2 ≡ p .srcRtype
   unfolding slotOf
-  n0 = two (p .srcRtype) (omega (arith, k .a0))
+  n0 = two (p .srcRtype) (omega (arith, k .srcRtype))
 
   n1 : numberAt (slotOf p) 2 2 ≡ p .rtype
   unfolding slotOf
-  n1 = two (p .rtype) (omega (arith, k .a1))
+  n1 = two (p .rtype) (omega (arith, k .rtype))
 
   n2 : numberAt (slotOf p) 4 2 ≡ p .srcBase
   unfolding slotOf
-  n2 = two (p .srcBase) (omega (arith, k .a2))
+  n2 = two (p .srcBase) (omega (arith, k .sizes .srcBase))
 
   n3 : headerIn (slotOf p) ≡ p .header
   unfolding slotOf
-  n3 = two (p .header) (omega (arith, k .a3, k .a5))
+  n3 = two (p .header) (omega (arith, k .sizes .header, k .sizes .size))
 
   n4 : numberAt (slotOf p) 8 2 ≡ p .base
   unfolding slotOf
-  n4 = two (p .base) (omega (arith, k .a4, k .a5))
+  n4 = two (p .base) (omega (arith, k .sizes .base, k .sizes .size))
 
   n5 : sizeIn (slotOf p) ≡ p .size
   unfolding slotOf
-  n5 = two (p .size) (omega (arith, k .a5))
+  n5 = two (p .size) (omega (arith, k .sizes .size))
 
   n6 : countIn (slotOf p) ≡ length (p .steps)
   unfolding slotOf
-  n6 = two (length (p .steps)) (omega (arith, k .a6))
+  n6 = two (length (p .steps)) (omega (arith, k .few))
 
   steps-in : stepsAt (slotOf p) stepsFrom (length (p .steps)) ≡ p .steps
   steps-in = ap (λ (l : List ℕ). stepsAt l stepsFrom (length (p .steps))) as-steps ∙ steps-back behind (headOf p) (p .steps) 16 refl lows
