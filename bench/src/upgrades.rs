@@ -233,16 +233,81 @@ pub fn dispatch_row(u: &Upgrading) -> Row<'_> {
     )
 }
 
-/// What the C boundary adds to the port's own dispatch: a call that the first test refuses, beyond a turn that calls nothing.
+type Export = extern "C" fn(
+    *const u8,
+    usize,
+    *const u16,
+    usize,
+    u16,
+    usize,
+    usize,
+    *const u8,
+    usize,
+    usize,
+    *mut u8,
+    usize,
+    &mut u16,
+    &mut usize,
+) -> u8;
+
+/// A function of the arguments that the export takes, which makes its first test and no more: what any call costs.
+#[allow(clippy::too_many_arguments)] // those of the export
+extern "C" fn plain(
+    _plans: *const u8,
+    _plans_len: usize,
+    _unplanned: *const u16,
+    _unplanned_len: usize,
+    _rtype: u16,
+    source: usize,
+    target: usize,
+    _src: *const u8,
+    _src_len: usize,
+    _stated: usize,
+    _dst: *mut u8,
+    _dst_len: usize,
+    became: &mut u16,
+    size: &mut usize,
+) -> u8 {
+    if source.max(target) < LONG_HEADER {
+        (*became, *size) = (1, 1);
+        return 0;
+    }
+    BAD_HEADER
+}
+
+fn called(u: &Upgrading) -> Call<'_> {
+    let mut into = vec![0xAA; u.plan.record_size()];
+    Box::new(move || {
+        let (plans, record) = (black_box(&u.slot), black_box(&u.record));
+        let (mut became, mut size) = (0, 0);
+        // through a pointer, so that the compiler leaves the arguments as they are
+        black_box(black_box(plain as Export)(
+            plans.as_ptr(),
+            plans.len(),
+            [].as_ptr(),
+            0,
+            RTYPE.into(),
+            LONG_HEADER,
+            HEADER,
+            record.as_ptr(),
+            record.len(),
+            record.len(),
+            into.as_mut_ptr(),
+            into.len(),
+            &mut became,
+            &mut size,
+        ));
+        black_box((became, size, &into));
+    })
+}
+
+/// What the C boundary adds to the port's own dispatch: a call that its first test refuses, beyond a call of any function like it.
 pub fn boundary_rows(u: &Upgrading) -> [Row<'_>; 2] {
     let whole = || dispatched(u, (SOURCE_HEADER, HEADER), 0);
-    let nothing: Call = Box::new(move || {
-        black_box((black_box(&u.slot), black_box(&u.record)));
-    });
     [
         row(
-            "a turn that calls nothing, the port's dispatch",
-            nothing,
+            "a call of a function with the export's arguments, the port's dispatch",
+            called(u),
             whole(),
             Ends::Plain,
         ),
