@@ -15,7 +15,7 @@ use Rattle.table.specs.Table.{inBounds, tableOk}
 use Rattle.table.specs.declared.Rule.{Rule}
 use Rattle.table.specs.declared.Rule.the-variants.{Bounds}
 use Rattle.layout.specs.Layout.{recordOf, countOf, heads}
-use Rattle.layout.specs.Size.{lastEnd, recordSize}
+use Rattle.record_size.specs.Size.{lastEnd, recordSize}
 use Rattle.layout.specs.Shape.{shapeOk}
 use Rattle.layout.specs.declared.block.Holder.the-variants.{Record}
 use Rattle.layout.proofs.Shapes.{base-in-record}

@@ -12,7 +12,7 @@ use Rattle.lent.specs.Bytes.{Bytes, numberAt}
 use Rattle.lent.proofs.Scan.{both}
 use Rattle.field.specs.Field.{fieldsOf}
 use Rattle.layout.specs.Layout.{RecordLayout, recordAt, recordHead, recordOf, countOf}
-use Rattle.layout.specs.Size.{recordSize}
+use Rattle.record_size.specs.Size.{recordSize}
 use Rattle.layout.specs.declared.block.Holder.the-variants.{Record}
 use Rattle.admission.specs.Admission.{admitBoth, orRefused}
 use Rattle.admission.specs.declared.Admitted.{Admitted}

@@ -12,7 +12,8 @@ use Rattle.field.specs.declared.FieldDef.{FieldDef}
 use Rattle.layout.specs.Layout.{RecordLayout, recordAt}
 use Rattle.layout.specs.Find.{firstOf}
 use Rattle.layout.specs.declared.find.Place.the-variants.{At}
-use Rattle.compare.specs.Compare.{fieldEq, met, baseCompatible, matches, verdictOf}
+use Rattle.equal.specs.Equal.{fieldEq}
+use Rattle.compare.specs.Compare.{met, baseCompatible, matches, verdictOf}
 use Rattle.compare.specs.declared.answer.Verdict.the-variants.{Compiled}
 
 -- a layout against itself: the first record of its rtype is compiled

@@ -1,3 +1,3 @@
-pub mod Equal
+pub mod Bases
 pub mod Laws
 pub mod Skipping

@@ -21,7 +21,8 @@ use Rattle.table.specs.Parts.{chain}
 use Rattle.step.specs.Step.{copy, sourceOf, takes, targetOf, endOf as stepEnd, stepOk, stepsOk}
 use Rattle.step.specs.declared.Step.{Step}
 use Rattle.plan.specs.Rule.{Want, counts, stepOf}
-use Rattle.plan.specs.Steps.{before, stepsOf, offsetOfWant, inTargetOrder, joins, joined, joinFrom, joinAll, plannedSteps}
+use Rattle.coalesce.specs.Joins.{joins, joined, joinFrom, joinAll}
+use Rattle.steps.specs.Steps.{before, stepsOf, offsetOfWant, inTargetOrder, plannedSteps}
 use Rattle.plan.specs.declared.rule.Carried.{Carried}
 use Rattle.plan.specs.declared.rule.Carried.the-variants.{By, Default}
 use Rattle.rule.specs.Body.{defs}

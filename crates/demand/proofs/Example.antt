@@ -19,7 +19,8 @@ use Rattle.admission.proofs.When.{by-rule}
 use Rattle.step.specs.Step.{copy, int}
 use Rattle.slot.specs.Plan.{Plan, isByte}
 use Rattle.plan.specs.Rule.{stepFor, stepOf, wants}
-use Rattle.plan.specs.Steps.{stepsOf, joins, joinFrom, joinAll, plannedSteps}
+use Rattle.coalesce.specs.Joins.{joins, joinFrom, joinAll}
+use Rattle.steps.specs.Steps.{stepsOf, plannedSteps}
 use Rattle.mapping.specs.Mapping.{half, span, integerOf, least, largest, numberOf, mapped, mapInt}
 use Rattle.rule.specs.Bytewise.{stepByte, bytewise}
 use Rattle.rule.specs.Body.{ruleByte, ruleBody}

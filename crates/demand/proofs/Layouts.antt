@@ -11,7 +11,7 @@ use Rattle.lent.specs.Scan.{every}
 use Rattle.lent.proofs.Scan.{both}
 use Rattle.field.specs.Field.{fieldsOf}
 use Rattle.layout.specs.Layout.{startAt, lengthAt, recordAt, recordHead, recordOf, countOf}
-use Rattle.layout.specs.Size.{recordSize}
+use Rattle.record_size.specs.Size.{recordSize}
 use Rattle.layout.specs.Shape.{shapeOk}
 use Rattle.layout.specs.declared.block.Holder.the-variants.{Record}
 use Rattle.layout.proofs.Shapes.{base-in-record, few-in-record}
@@ -21,7 +21,7 @@ use Rattle.admission.proofs.Records.{record-keeps}
 use Rattle.slot.specs.Plan.{Plan, rtypesOk}
 use Rattle.slot.proofs.Checking.{bytes-window}
 use Rattle.plan.specs.Rule.{wants}
-use Rattle.plan.specs.Steps.{plannedSteps}
+use Rattle.steps.specs.Steps.{plannedSteps}
 use Rattle.defaults.specs.Defaults.{startsAfter}
 use Rattle.demand.specs.Demand.{Admitted, Planned}
 

@@ -14,7 +14,7 @@ use Rattle.field.specs.Field.{fieldAt, fieldsOf, endOf}
 use Rattle.field.specs.declared.FieldDef.{FieldDef}
 use Rattle.table.specs.Table.{inBounds, widthOk}
 use Rattle.table.specs.declared.Rule.the-variants.{Bounds, Width}
-use Rattle.layout.specs.Size.{lastEnd}
+use Rattle.record_size.specs.Size.{lastEnd}
 use Rattle.plan.specs.Rule.{wantAt, wants}
 use Rattle.rule.specs.Body.{defs}
 use Rattle.defaults.specs.Defaults.{startsAfter}

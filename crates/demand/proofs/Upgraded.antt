@@ -14,7 +14,7 @@ use Rattle.lent.specs.Scan.{every}
 use Rattle.field.specs.Field.{fieldsOf}
 use Rattle.table.specs.Table.{apart}
 use Rattle.table.specs.declared.Rule.the-variants.{Bounds, Apart}
-use Rattle.layout.specs.Size.{lastEnd}
+use Rattle.record_size.specs.Size.{lastEnd}
 use Rattle.admission.proofs.Records.{last-inside}
 use Rattle.step.specs.Step.{stepsOk}
 use Rattle.step.specs.declared.Step.{Step}
@@ -22,7 +22,7 @@ use Rattle.slot.specs.Plan.{Plan, planOk}
 use Rattle.slot.proofs.Kept.{kept}
 use Rattle.slot.proofs.Checking.{bytes-every}
 use Rattle.plan.specs.Rule.{wants}
-use Rattle.plan.specs.Steps.{plannedSteps}
+use Rattle.steps.specs.Steps.{plannedSteps}
 use Rattle.interpreter.specs.Run.{run, upgraded}
 use Rattle.rule.specs.Bytewise.{runByte, bytewise}
 use Rattle.rule.specs.Body.{defs, ruleByte, ruleBody}

@@ -15,7 +15,8 @@ use Rattle.field.specs.Field.{fieldsOf, byteOf}
 use Rattle.field.specs.declared.FieldDef.{FieldDef}
 use Rattle.order.specs.Order.{byOffset}
 use Rattle.layout.specs.Layout.{structOf}
-use Rattle.hash.specs.Walk.{Walked, Went, Stopped, after, fieldBytes, namesStruct, walkField, walkFields, walkTable}
+use Rattle.feed.specs.Feed.{fieldBytes}
+use Rattle.hash.specs.Walk.{Walked, Went, Stopped, after, namesStruct, walkField, walkFields, walkTable}
 use Rattle.hash.specs.Hash.{summed, hashOf}
 use Rattle.hash.specs.Parts.{told}
 

@@ -20,7 +20,8 @@ use Rattle.field.specs.declared.FieldDef.{FieldDef}
 use Rattle.order.specs.Order.{byOffset}
 use Rattle.layout.specs.Layout.{structAt, countOf, headOf, structOf, FewFields}
 use Rattle.layout.specs.declared.block.Holder.the-variants.{Struct}
-use Rattle.hash.specs.Walk.{Walked, Went, Stopped, after, fieldBytes, namesStruct, walkField, walkFields, walkTable}
+use Rattle.feed.specs.Feed.{fieldBytes}
+use Rattle.hash.specs.Walk.{Walked, Went, Stopped, after, namesStruct, walkField, walkFields, walkTable}
 use Rattle.hash.specs.Parts.{told, visitOf}
 use Rattle.hash.specs.declared.Hashed.{Hashed}
 use Rattle.hash.specs.declared.Hashed.the-variants.{Sum, Refused}

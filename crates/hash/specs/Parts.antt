@@ -5,10 +5,10 @@ use mathlib.Core.List.{List}
 use lib.Dec.{ltb}
 use Rattle.lent.specs.Bytes.{bytesOf}
 use Rattle.crc64.specs.Sum.{bytesStep}
-use Rattle.field.specs.Field.{fieldAt}
 use Rattle.field.specs.declared.FieldDef.{FieldDef}
 use Rattle.layout.specs.Layout.{headOf, structOf}
-use Rattle.hash.specs.Walk.{Walked, Went, Stopped, fieldBytes, namesStruct}
+use Rattle.feed.specs.Feed.{fieldBytes}
+use Rattle.hash.specs.Walk.{Walked, Went, Stopped, namesStruct}
 use Rattle.hash.specs.declared.Hashed.{Hashed}
 use Rattle.hash.specs.declared.Hashed.the-variants.{Sum, Refused}
 use Rattle.hash.specs.declared.Visit.{Visit}
@@ -18,10 +18,6 @@ use Rattle.hash.specs.declared.Visit.the-variants.{On, Enter, Over}
 abbrev pub told : Walked ℕ → Hashed
 told (Went fp visits) = Sum fp visits
 told (Stopped refusal) = Refused refusal
-
--- the bytes of the field in a row of 16 go into a sum
-abbrev pub rowStep : ℕ → List ℕ → ℕ
-rowStep fp row = bytesStep fp (fieldBytes (fieldAt row 0))
 
 unfoldable pub visitOf : List ℕ → List ℕ → ℕ → FieldDef → ℕ → ℕ → Visit
 visitOf cat l budget f fp visits =

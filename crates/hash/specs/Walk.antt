@@ -1,22 +1,17 @@
 -- The walk behind a layout's hash: which bytes it feeds a sum, in order, and how many fields it visits.
 use Prim.Native.Nat.{ℕ, zero, suc, _+_}
 use mathlib.Core.Bool.{Bool, cond, _&&_}
-use mathlib.Core.List.{List, [], _∷_, _++_}
+use mathlib.Core.List.{List, [], _∷_}
 use lib.Dec.{ltb}
 use Rattle.limits.specs.Limits.{maxLevel}
 use Rattle.limits.specs.declared.refusal.Refusal.{Refusal}
 use Rattle.limits.specs.declared.refusal.Refusal.the-variants.{TooDeep, OverBudget}
 use Rattle.lent.specs.Bytes.{bytesOf}
-use Rattle.field.specs.Field.{fieldsOf, byteOf, isStruct}
+use Rattle.field.specs.Field.{fieldsOf, isStruct}
 use Rattle.field.specs.declared.FieldDef.{FieldDef}
 use Rattle.order.specs.Order.{byOffset}
 use Rattle.layout.specs.Layout.{structOf, hasStruct}
-
--- a field's own bytes; def_index is none of them
-unfoldable pub fieldBytes : FieldDef → List ℕ
-fieldBytes f =
-    bytesOf 2 (f .«field_id»)
-    ++ (bytesOf 2 (f .offset) ++ (bytesOf 2 (f .size) ++ (bytesOf 1 (f .«type_id») ++ (bytesOf 1 (f .flags) ++ bytesOf 1 (byteOf (f .scale))))))
+use Rattle.feed.specs.Feed.{fieldBytes}
 
 -- where a walk stands: what it has fed and how many fields it has visited; or why it stopped
 pub data Walked (S : Type 0) : Type 0 where

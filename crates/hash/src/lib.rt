@@ -6,9 +6,9 @@ ghost use Rattle.limits.specs.Limits.{maxFields};
 ghost use Rattle.lent.specs.Bytes.{bytesOf};
 ghost use Rattle.crc64.specs.Sum.{digitTable, bytesStep};
 ghost use Rattle.field.specs.Field.{fieldsOf};
-ghost use Rattle.hash.specs.Walk.{fieldBytes, namesStruct, walkField, walkTable};
+ghost use Rattle.hash.specs.Walk.{namesStruct, walkField, walkTable};
 ghost use Rattle.hash.specs.Hash.{hashOf};
-ghost use Rattle.hash.specs.Parts.{visitOf, near, told, rowStep};
+ghost use Rattle.hash.specs.Parts.{visitOf, near, told};
 ghost use Rattle.layout.specs.Layout.{FewFields};
 use crc64::Crc64;
 use crc64::digitwise;
@@ -28,18 +28,6 @@ enum Visit {
     On(u64, usize),
     Enter(u64, usize, usize),
     Over,
-}
-
-// A field's own bytes, as two numbers: its id and offset; its size, type, flags and scale.
-fn field_sum(t: &[u64; 160], start: u64, f: FieldDef) -> u64
-    requires { ⌜ now t ≡ digitTable ⌝ }
-    ensures { λ r. ⌜ r ≡ bytesStep start (fieldBytes f) ⌝ }
-{
-    let place = (f.field_id as u64) + 65536 * (f.offset as u64);
-    let scale = field::scale_byte(f.scale) as u64;
-    let kind = (f.type_id as u64) + 256 * ((f.flags as u64) + 256 * scale);
-    let sum = digitwise::step_number(t, start, place, 4);
-    digitwise::step_number(t, sum, (f.size as u64) + 65536 * kind, 5)
 }
 
 fn names_struct(cat: &[u8], l: &[u8], f: FieldDef) -> bool
@@ -72,7 +60,7 @@ fn visited(
     if budget <= visits {
         return Visit::Over;
     }
-    let sum = field_sum(t, fp, f);
+    let sum = feed::field_sum(t, fp, f);
     if !names_struct(cat, l, f) {
         return Visit::On(sum, visits + 1);
     }
@@ -158,24 +146,4 @@ pub fn hash_record(cat: &[u8], l: &[u8], budget: usize, table: &[u8]) -> Hashed
         Crc64::EMPTY,
         0,
     )
-}
-
-// ---- a sum that is lent takes a field in, in place
-
-// The sum with a field's own bytes, of a row of 16 that is lent alone.
-fn with_row(crc: Crc64, row: &[u8]) -> Crc64
-    requires { ⌜ length (now row) ≡ 16 ⌝ }
-    ensures { λ r. ⌜ r .fp ≡ rowStep (crc .fp) (now (row .entry)) ⌝ }
-{
-    let t = digitwise::table();
-    Crc64 {
-        fp: field_sum(&t, crc.fp, field::field_in(row, 0)),
-    }
-}
-
-pub fn add_field(crc: &mut Crc64, row: &[u8])
-    requires { ⌜ length (now row) ≡ 16 ⌝ }
-    ensures { λ _. ⌜ now (crc .exit) .fp ≡ rowStep (now (crc .entry) .fp) (now (row .entry)) ⌝ }
-{
-    *crc = with_row(*crc, row);
 }

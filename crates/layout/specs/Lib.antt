@@ -1,4 +1,3 @@
 pub mod Layout
 pub mod Shape
-pub mod Size
 pub mod Find

@@ -2,4 +2,3 @@
 pub mod block;
 pub mod find;
 pub mod shape;
-pub mod size;

@@ -1,4 +1,2 @@
-pub mod Joining
-pub mod Planning
 pub mod Firsts
 pub mod Indexed

@@ -1,4 +1,3 @@
-// UpgradePlan of dbn's upgrade.rs: which bytes of a record go where.
+// What a target field takes from a source record: op_for of dbn's upgrade.rs.
 pub mod places;
 pub mod rule;
-pub mod steps;

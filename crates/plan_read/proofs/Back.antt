@@ -19,7 +19,7 @@ use Rattle.decimal.proofs.Numbers.{number-back, past-back}
 use Rattle.decimal.proofs.Nibbles.{hex-back, hex-past}
 use Rattle.plan_text.specs.Text.{tab, newline, signOf, markOf, bodyLine, stepLine, stepLines, textOf}
 use Rattle.plan_text.proofs.Laid.{head-starts}
-use Rattle.plan_read.specs.Lenient.{stepAs, stepPast, stepsAs, planAs}
+use Rattle.plan_take.specs.Lenient.{stepAs, stepPast, stepsAs, planAs}
 
 -- ---- a cell
 

@@ -22,10 +22,11 @@ use Rattle.decimal.specs.Decimal.{isDigit, pushed, number, pasts, nth}
 use Rattle.decimal.specs.Hex.{unhex}
 use Rattle.decimal.proofs.Nibbles.{unhex-length}
 use Rattle.plan_text.specs.Writing.{textIn}
-use Rattle.plan_read.specs.Lenient.{numbersAs, stepsAs, numbersFrom, bodyTextFrom, stepsTextFrom, headerAs, sizeAs, countAs, planAs, hasRoom, accepts}
+use Rattle.plan_take.specs.Lenient.{numbersAs, stepsAs, numbersFrom, bodyTextFrom, stepsTextFrom, headerAs, sizeAs, countAs, planAs, hasRoom}
+use Rattle.plan_read.specs.Reading.{accepts}
 use Rattle.plan_read.specs.Reading.{readOf, afterReading}
 use Rattle.plan_read.specs.declared.reader.ReadPlan.the-variants.{Read, Refused}
-use Rattle.plan_read.proofs.Drawn.{drawn-length}
+use Rattle.plan_take.proofs.Drawn.{drawn-length}
 use Rattle.plan_read.proofs.Theorems.{alike-self, alike-same, only, accepted}
 
 -- ---- stores into zeros

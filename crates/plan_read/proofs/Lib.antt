@@ -1,5 +1,3 @@
 pub mod Back
 pub mod Theorems
-pub mod Parted
-pub mod Drawn
 pub mod Candidate

@@ -14,7 +14,8 @@ use Rattle.lent.proofs.Scan.{both}
 use Rattle.slot.specs.Plan.{Plan, planOk}
 use Rattle.slot.specs.Slot.{slotSize, slotOf}
 use Rattle.plan_text.specs.Text.{textOf}
-use Rattle.plan_read.specs.Lenient.{planAs, accepts}
+use Rattle.plan_take.specs.Lenient.{planAs}
+use Rattle.plan_read.specs.Reading.{accepts}
 use Rattle.plan_read.specs.Reading.{IsTextOf, Reads, readOf, afterReading}
 use Rattle.plan_read.specs.declared.reader.ReadPlan.{ReadPlan}
 use Rattle.plan_read.specs.declared.reader.ReadPlan.the-variants.{Read, Refused}

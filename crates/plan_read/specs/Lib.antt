@@ -1,2 +1,1 @@
-pub mod Lenient
 pub mod Reading

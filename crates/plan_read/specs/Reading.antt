@@ -1,17 +1,18 @@
 -- What the reader answers, and what it leaves: refusal 11, then 16 unless the text is the writer's own of some plan that keeps every rule.
 use Prim.Native.Nat.{ℕ, _≤_, _<_}
 use mathlib.Core.Path.{_≡_}
-use mathlib.Core.Bool.{Bool, true, cond}
+use mathlib.Core.Bool.{Bool, true, cond, _&&_}
 use mathlib.Core.List.{List}
-use lib.Dec.{leb}
+use lib.Dec.{leb, eqb}
 use lib.ListN.{length}
 use lib.Seq.{sets}
 use Rattle.limits.specs.declared.refusal.Refusal.{Refusal}
 use Rattle.limits.specs.declared.refusal.Refusal.the-variants.{BadPlan, NoRoom}
+use Rattle.lent.specs.Scan.{alike}
 use Rattle.slot.specs.Plan.{Plan, planOk}
 use Rattle.slot.specs.Slot.{slotSize, slotOf}
 use Rattle.plan_text.specs.Text.{textOf}
-use Rattle.plan_read.specs.Lenient.{planAs, accepts}
+use Rattle.plan_take.specs.Lenient.{planAs}
 use Rattle.plan_read.specs.declared.reader.ReadPlan.{ReadPlan}
 use Rattle.plan_read.specs.declared.reader.ReadPlan.the-variants.{Read, Refused}
 
@@ -30,6 +31,10 @@ pub record Reads (t slot : List ℕ) (answer : ReadPlan) (after : List ℕ) : Ty
   pub none : slotSize ≤ length slot → ((p : Plan) → IsTextOf t p → ⊥) → (answer ≡ Refused BadPlan) × (after ≡ slot)
 
 -- ---- the same, computed
+
+-- it keeps every rule, and the text is what the writer would write for it
+unfoldable pub accepts : List ℕ → Bool
+accepts t = planOk (planAs t) && alike eqb (textOf (planAs t)) t
 
 unfoldable pub readOf : List ℕ → List ℕ → ReadPlan
 readOf t slot = cond (leb slotSize (length slot)) (cond (accepts t) Read (Refused BadPlan)) (Refused NoRoom)

@@ -1,4 +1,2 @@
-// The reader of plan text: what a text would be the plan of, whether that is its text, and the reader itself.
-pub mod matching;
+// The reader of plan text: what a text would be the plan of, and whether that is its text.
 pub mod reader;
-pub mod taking;

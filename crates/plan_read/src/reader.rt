@@ -43,7 +43,7 @@ fn is_plan_of(slot: &[u8], text: &[u8]) -> bool
     if !check::is_ok(slot) {
         return false;
     }
-    crate::matching::is_text(slot, text)
+    plan_match::is_text(slot, text)
 }
 
 pub fn read_plan(text: &[u8], plan: &mut [u8]) -> ReadPlan
@@ -53,13 +53,13 @@ pub fn read_plan(text: &[u8], plan: &mut [u8]) -> ReadPlan
         return ReadPlan::Refused(Refusal::NoRoom);
     }
     let mut slot = [0u8; slot::SIZE];
-    let behind = crate::taking::take_head(text, &mut slot);
+    let behind = plan_take::take_head(text, &mut slot);
     if !has_room(&slot) {
         return ReadPlan::Refused(Refusal::BadPlan);
     }
     let n = body_length(&slot);
     let count = check::number_at(&slot, 12);
-    crate::taking::take_rest(text, behind, n, count, &mut slot);
+    plan_take::take_rest(text, behind, n, count, &mut slot);
     if !is_plan_of(&slot, text) {
         return ReadPlan::Refused(Refusal::BadPlan);
     }

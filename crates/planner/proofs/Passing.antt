@@ -13,7 +13,7 @@ use Rattle.field.specs.declared.FieldDef.{FieldDef}
 use Rattle.limits.specs.declared.refusal.Refusal.the-variants.{BadHeader, BadDefaults, NoRoom}
 use Rattle.field.specs.Field.{fieldsOf}
 use Rattle.layout.specs.Layout.{RecordLayout}
-use Rattle.layout.specs.Size.{recordSize}
+use Rattle.record_size.specs.Size.{recordSize}
 use Rattle.slot.specs.Slot.{slotSize}
 use Rattle.plan.specs.Rule.{Want, wants}
 use Rattle.defaults.specs.Defaults.{startsAfter, headerOk, defaultsOk}

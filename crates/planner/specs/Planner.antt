@@ -9,13 +9,13 @@ use Rattle.limits.specs.declared.refusal.Refusal.{Refusal}
 use Rattle.limits.specs.declared.refusal.Refusal.the-variants.{BadHeader, BadDefaults, NoRoom}
 use Rattle.field.specs.Field.{fieldsOf}
 use Rattle.layout.specs.Layout.{RecordLayout, recordOf, countOf}
-use Rattle.layout.specs.Size.{recordSize}
+use Rattle.record_size.specs.Size.{recordSize}
 use Rattle.layout.specs.declared.block.Holder.the-variants.{Record}
 use Rattle.admission.specs.Admission.{admitBoth, orRefused}
 use Rattle.slot.specs.Plan.{Plan}
 use Rattle.slot.specs.Slot.{slotSize, slotOf}
 use Rattle.plan.specs.Rule.{wants}
-use Rattle.plan.specs.Steps.{plannedSteps}
+use Rattle.steps.specs.Steps.{plannedSteps}
 use Rattle.defaults.specs.Defaults.{headerOk, defaultsOk}
 use Rattle.planner.specs.declared.Planned.{Planned}
 use Rattle.planner.specs.declared.Planned.the-variants.{Made, NoRecord, Refused}

@@ -6,15 +6,14 @@ ghost use Prim.Native.Nat.{_+_, _*_, _<_, _≤_};
 ghost use lib.ListN.{length};
 ghost use Rattle.limits.specs.Limits.{maxBytes, maxFields, maxHeader};
 ghost use Rattle.layout.specs.Layout.{recordAt};
-ghost use Rattle.layout.specs.Size.{recordSize};
+ghost use Rattle.record_size.specs.Size.{recordSize};
 ghost use Rattle.slot.specs.Slot.{slotSize};
 ghost use Rattle.planner.specs.Planner.{betweenOf, plannedOf, orFound, laidBetween, afterPlan};
 use admission::Admitted;
+use coalesce::Bases;
 use layout::block;
 use layout::block::Holder;
 use limits::refusal::Refusal;
-use plan::steps;
-use plan::steps::Bases;
 use slot::Numbers;
 use slot::UpgradePlan;
 
@@ -87,7 +86,7 @@ fn between(
     ensures { λ r. ⌜ (r ≡ betweenOf (now (cat .entry)) (recordAt (now (target .entry)) to) header (now (body .entry)) (now (marks .entry)) (length (now (room .entry)))) × (now (room .exit) ≡ orFound r (laidBetween (now (cat .entry)) (recordAt (now (source .entry)) from) (recordAt (now (target .entry)) to) header (now (body .entry)) (now (marks .entry)) (now (room .entry))) (now (room .entry))) ⌝ }
 {
     let want = block::table_at(Holder::Record, target, to);
-    let size = layout::size::record_size(target, to);
+    let size = record_size::record_size(target, to);
     if !defaults::header_ok(cat, header, size, want) {
         return Planned::Refused(Refusal::BadHeader);
     }

@@ -15,7 +15,7 @@ use Rattle.step.specs.Step.{copy, sourceOp, takesOp, targetOp, sourceOf, takes,
 use Rattle.step.specs.declared.Op.{Op}
 use Rattle.step.specs.declared.Op.the-variants.{Copy, Int}
 use Rattle.step.specs.declared.Step.{Step}
-use Rattle.plan.specs.Steps.{isCopy, inBases, adjacent, joins, joined, joinFrom, joinAll}
+use Rattle.coalesce.specs.Joins.{isCopy, inBases, adjacent, joins, joined, joinFrom, joinAll}
 use Rattle.rule.specs.Bytewise.{stepByte, runByte}
 use Rattle.rule.specs.Recut.{Recut, same, cut, back, then}
 use Rattle.rule.proofs.Stores.{step-out}

@@ -20,7 +20,7 @@ use Rattle.table.proofs.Chained.{apart-sorted}
 use Rattle.step.specs.Step.{copy, int, targetOf, gives}
 use Rattle.step.specs.declared.Step.{Step}
 use Rattle.plan.specs.Rule.{Want, counts, sameKind, apart as unlike, isString, isSigned, sameSign, sameId, stepFor, stepOf}
-use Rattle.plan.specs.Steps.{before, stepsOf, offsetOfWant, inTargetOrder, plannedSteps}
+use Rattle.steps.specs.Steps.{before, stepsOf, offsetOfWant, inTargetOrder, plannedSteps}
 use Rattle.plan.specs.declared.rule.Carried.{Carried}
 use Rattle.plan.specs.declared.rule.Carried.the-variants.{By, Default}
 use Rattle.rule.specs.Bytewise.{runByte}

@@ -11,7 +11,7 @@ use Rattle.lent.specs.Scan.{every}
 use Rattle.field.specs.Field.{fieldAt, fieldsOf}
 use Rattle.table.specs.Table.{reservedZero}
 use Rattle.layout.specs.Layout.{countOf, recordOf}
-use Rattle.layout.specs.Size.{recordSize}
+use Rattle.record_size.specs.Size.{recordSize}
 use Rattle.layout.specs.declared.block.Holder.the-variants.{Record}
 use Rattle.admission.specs.Admission.{admitOf, orRefused}
 use Rattle.hash.specs.Hash.{hashOf}

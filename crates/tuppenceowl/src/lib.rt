@@ -57,7 +57,7 @@ pub fn record_size(cat: &[u8], layout: &[u8], k: usize) -> Sized
         Admitted::Refused(refusal) => Sized::Refused(refusal),
         Admitted::Fine => {
             if k < block::count_of(Holder::Record, layout) {
-                Sized::Bytes(layout::size::record_size(layout, block::record_head(k)))
+                Sized::Bytes(record_size::record_size(layout, block::record_head(k)))
             } else {
                 Sized::NoRecord
             }

@@ -4,8 +4,10 @@ use borrow.Author.Needs.{needs}
 use lib.ListN.{length}
 use mathlib.Core.Path.{_∙_, _≡_, sym}
 use native.Mathlib.Omega.{arith}
-use Rattle.compare.proofs.Equal.{base-larger, base-smaller, ids-differ, met-found, met-lacks, met-padding}
-use Rattle.compare.specs.Compare.{baseCompatible, fieldEq, met}
+use Rattle.equal.proofs.Equal.{ids-differ}
+use Rattle.compare.proofs.Bases.{base-larger, base-smaller, met-found, met-lacks, met-padding}
+use Rattle.equal.specs.Equal.{fieldEq}
+use Rattle.compare.specs.Compare.{baseCompatible, met}
 use Rattle.field.specs.Field.{fieldAt, fieldsOf}
 use Rattle.layout.specs.Layout.{recordAt}
 use Rattle.lent.proofs.Scan.{ends, finds, goes, lacks, seeks, stops}

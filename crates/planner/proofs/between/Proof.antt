@@ -8,7 +8,7 @@ use native.Mathlib.Omega.{arith}
 use Rattle.defaults.specs.Defaults.{defaultsOk, headerOk}
 use Rattle.field.specs.Field.{fieldsOf}
 use Rattle.layout.specs.Layout.{recordAt}
-use Rattle.layout.specs.Size.{recordSize}
+use Rattle.record_size.specs.Size.{recordSize}
 use Rattle.limits.specs.Limits.{maxBytes}
 use Rattle.plan.specs.Rule.{wants}
 use Rattle.planner.proofs.Passing.{body-fits, header-fits, in-header, is-made, no-room, wrong-body}
