@@ -1,4 +1,5 @@
 // A small upgrade that is built in: its layouts, the plan, its map, and one record before and after.
+use crate::making;
 use owl_tape::Slot;
 
 pub fn show() {
@@ -23,14 +24,14 @@ fn show_text(text: &[u8]) {
     owl_say::out(b"A source and a target layout, as 'owl plan' takes them:\n\n");
     owl_say::out(text);
     let mut slot = [0u8; slot::SIZE];
-    if owl_making::plan_of(text, &mut slot) {
+    if making::plan_of(text, &mut slot) {
         show_plan(&slot);
     }
 }
 
 fn show_plan(slot: &Slot) {
     owl_say::out(b"\nThe plan between them, as 'owl plan' prints it:\n\n");
-    owl_making::say_plan(slot);
+    making::say_plan(slot);
     owl_say::out(b"\nWhere the target's bytes come from, as 'owl map' draws it:\n\n");
     owl_map::draw(slot);
     show_record(

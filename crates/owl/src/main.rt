@@ -1,6 +1,8 @@
 // owl: plans, hashes and upgrades for a build office at a terminal (docs/OWL.md). Results go to standard output, messages to standard error.
 mod demo;
+mod faults;
 mod help;
+mod making;
 mod plans;
 
 use owl_say::files;
@@ -18,10 +20,10 @@ fn make(text: &Text, n: usize, hash: bool) {
     let all = lent::part(text, 0, n);
     let mut slot = [0u8; slot::SIZE];
     if hash {
-        return owl_making::say_hashes(all);
+        return making::say_hashes(all);
     }
-    if owl_making::plan_of(all, &mut slot) {
-        owl_making::say_plan(&slot);
+    if making::plan_of(all, &mut slot) {
+        making::say_plan(&slot);
     }
 }
 

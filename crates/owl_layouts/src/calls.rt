@@ -1,67 +1,78 @@
-// The calls of the field cursor. Its table and names are taken out of the room for a call, and put back.
+// The calls of the field cursor, on what is open.
 use crate::room;
+use crate::room::Names;
 use crate::room::Room;
+use crate::room::Rows;
 use crate::state;
-use builders::FieldCursor;
+use crate::state::State;
 use builders::Placed;
 use builders::Times;
-use caseline::put;
+use limits::refusal;
 use tuppenceowl::building;
 
-pub enum Call {
-    // Type, size and flags.
-    Scalar(u8, u16, u8),
-    // Type and size.
-    Text(u8, u16),
-    // Struct.
-    Nested(u16, Times),
-    At(usize),
-    Base,
-    // No type of this name.
-    Unknown,
-}
-
-fn answer(
-    cat: &[u8],
-    structs: &[u8],
-    rows: &mut [u8],
-    names: &mut [u8],
-    c: FieldCursor,
-    call: Call,
-    id: u16,
-    name: &[u8],
-) -> Placed {
-    match call {
-        Call::Scalar(t, size, flags) => {
-            building::scalar(cat, rows, names, c, id, t, size, flags, 0, name)
+// What is open after an answer to a word of the line.
+fn answered(s: State, word: usize, answer: Placed, rows: Rows, names: Names) -> State {
+    match answer {
+        Placed::At(c) => {
+            let mut next = s;
+            next.cursor = c;
+            next.rows = rows;
+            next.names = names;
+            next
         }
-        Call::Text(t, size) => building::string(cat, rows, names, c, id, t, size, 0, name),
-        Call::Nested(k, times) => building::nested(
-            cat,
-            structs,
-            rows,
-            names,
-            c,
-            id,
-            k,
-            times,
-            name,
-        ),
-        Call::At(offset) => building::at(cat, rows, names, c, offset),
-        Call::Base => building::finish_base(cat, rows, names, c),
-        Call::Unknown => Placed::At(c),
+        Placed::Refused(r) => state::bad(s, word, refusal::number(r) as usize),
     }
 }
 
-pub fn on_cursor(room: &mut Room, c: FieldCursor, call: Call, id: u16, name: &[u8]) -> Placed {
-    let mut rows = [0u8; room::ROWS];
-    let mut names = [0u8; room::NAMES];
-    put::text(&mut rows, 0, lent::part(room, room::ROWS_AT, room::ROWS));
-    put::text(&mut names, 0, lent::part(room, room::NAMES_AT, room::NAMES));
+pub fn at(room: &Room, offset: usize, s: State) -> State {
     let cat = room::catalogue(room);
-    let structs = room::block(room, state::SOURCE);
-    let placed = answer(cat, structs, &mut rows, &mut names, c, call, id, name);
-    put::text(room, room::ROWS_AT, &rows);
-    put::text(room, room::NAMES_AT, &names);
-    placed
+    let mut rows = s.rows;
+    let mut names = s.names;
+    let answer = building::at(cat, &mut rows, &mut names, s.cursor, offset);
+    answered(s, 1, answer, rows, names)
+}
+
+pub fn base(room: &Room, s: State) -> State {
+    let cat = room::catalogue(room);
+    let mut rows = s.rows;
+    let mut names = s.names;
+    let answer = building::finish_base(cat, &mut rows, &mut names, s.cursor);
+    answered(s, 0, answer, rows, names)
+}
+
+pub fn scalar(name: &[u8], room: &Room, id: u16, t: u8, size: u16, flags: u8, s: State) -> State {
+    let cat = room::catalogue(room);
+    let mut rows = s.rows;
+    let mut names = s.names;
+    let c = s.cursor;
+    let answer = building::scalar(cat, &mut rows, &mut names, c, id, t, size, flags, 0, name);
+    answered(s, 3, answer, rows, names)
+}
+
+pub fn string(name: &[u8], room: &Room, id: u16, t: u8, size: u16, s: State) -> State {
+    let cat = room::catalogue(room);
+    let mut rows = s.rows;
+    let mut names = s.names;
+    let answer = building::string(cat, &mut rows, &mut names, s.cursor, id, t, size, 0, name);
+    answered(s, 3, answer, rows, names)
+}
+
+// Of a struct that is closed.
+pub fn nested(name: &[u8], room: &Room, id: u16, k: u16, times: Times, s: State) -> State {
+    let cat = room::catalogue(room);
+    let l = room::block(room, state::SOURCE);
+    let mut rows = s.rows;
+    let mut names = s.names;
+    let answer = building::nested(cat, l, &mut rows, &mut names, s.cursor, id, k, times, name);
+    answered(s, 3, answer, rows, names)
+}
+
+// The end of the record or struct.
+pub fn finish(room: &Room, s: State) -> State {
+    let cat = room::catalogue(room);
+    let ids = [0u16; 0];
+    let mut rows = s.rows;
+    let mut names = s.names;
+    let answer = building::finish(cat, &mut rows, &mut names, s.cursor, &ids);
+    answered(s, 1, answer, rows, names)
 }

@@ -1,6 +1,4 @@
-// What was wrong with a text, and where.
-
-// A number up to 16 is the refusal of a public call; the others have a message each (owl_making::faults).
+// What may be wrong with a text: a number up to 16 is the refusal of a public call, the others have a message each (owl's faults).
 pub const FINE: usize = 0;
 
 // Words.
@@ -40,38 +38,3 @@ pub const DEFAULT_LENGTH: usize = 32;
 pub const CATALOGUE_LENGTH: usize = 33;
 
 pub const LATE: usize = 34;
-
-pub struct Fault {
-    // Counted from 1, and where it begins in the text.
-    pub line: usize,
-    pub from: usize,
-    // Counted from 0: the item's own word.
-    pub word: usize,
-    pub why: usize,
-}
-
-// Of the words of one line.
-pub struct Flaw {
-    pub word: usize,
-    pub why: usize,
-}
-
-pub fn at(word: usize, why: usize) -> Flaw {
-    Flaw { word, why }
-}
-
-pub fn none() -> Flaw {
-    at(0, FINE)
-}
-
-// Whether the line has so many words.
-pub fn of_count(line: &[u8], expected: usize) -> Flaw {
-    let n = owl_words::words(line);
-    if n < expected {
-        return at(n, TOO_FEW);
-    }
-    if expected < n {
-        return at(expected, TOO_MANY);
-    }
-    none()
-}

@@ -1,18 +1,14 @@
 // The item 'field': its words, the call of the field cursor, and what a target's field has besides.
 use crate::calls;
-use crate::calls::Call;
 use crate::defaults;
 use crate::fault;
-use crate::fault::Flaw;
 use crate::pack;
 use crate::room;
 use crate::room::Room;
 use crate::state;
 use crate::state::State;
-use crate::state::Took;
 use crate::types;
-use builders::FieldCursor;
-use builders::Placed;
+use crate::words;
 use builders::Times;
 use caseline::Parsed;
 use layout::block::Holder;
@@ -20,22 +16,32 @@ use layout::block::Holder;
 // Words of the shortest line, and where the first word that may be left out stands.
 const SHORTEST: usize = 4;
 
+// The longest array or string.
+const MOST: u16 = limits::MAX_BYTES as u16;
+
 // What stands behind the type.
 pub struct Extras {
     pub counted: bool,
-    pub many: usize,
+    // One where it is not counted.
+    pub many: u16,
     pub marked: bool,
     pub defaulted: bool,
     // How many words the line should have.
     pub end: usize,
 }
 
-fn extras_behind(line: &[u8], counted: bool, many: usize) -> Extras {
-    let at = SHORTEST + lent::wide8(lent::one(counted));
+fn extras_of(line: &[u8]) -> Extras {
+    let mut many: u16 = 1;
+    let mut counted = false;
+    if let Parsed::Is(n) = caseline::number(owl_words::word(line, SHORTEST)) {
+        many = lent::lesser(n, limits::MAX_BYTES + 1) as u16;
+        counted = true;
+    }
+    let at = SHORTEST + lent::one(counted) as usize;
     let marked = lent::same(owl_words::word(line, at), b"mark");
-    let next = at + lent::wide8(lent::one(marked));
+    let next = at + lent::one(marked) as usize;
     let defaulted = lent::same(owl_words::word(line, next), b"default");
-    let end = next + 2 * lent::wide8(lent::one(defaulted));
+    let end = next + 2 * lent::one(defaulted) as usize;
     Extras {
         counted,
         many,
@@ -45,39 +51,32 @@ fn extras_behind(line: &[u8], counted: bool, many: usize) -> Extras {
     }
 }
 
-fn extras_of(line: &[u8]) -> Extras {
-    match caseline::number(owl_words::word(line, SHORTEST)) {
-        Parsed::Is(n) => extras_behind(line, true, n),
-        Parsed::Malformed => extras_behind(line, false, 0),
+// ---- the type
+
+// The number of a type of the catalogue, or behind them that of a closed struct; behind these, none.
+fn type_of(word: &[u8], room: &Room, structs: u8) -> usize {
+    let id = types::of_word(word);
+    if id < types::TYPES {
+        return id;
     }
+    let l = room::block(room, state::SOURCE);
+    types::TYPES + pack::named(Holder::Struct, l, structs, word) as usize
 }
 
-fn word_flaw(line: &[u8], e: Extras, s: State) -> Flaw {
-    let n = owl_words::words(line);
-    if s.open == state::NOTHING {
-        return fault::at(0, fault::NOT_OPEN);
+// 16 x class + width; nothing of a struct.
+fn kind_of(room: &Room, t: usize) -> u8 {
+    if t < types::TYPES {
+        return lent::byte_at(room, t);
     }
-    if n < e.end {
-        return fault::at(n, fault::TOO_FEW);
-    }
-    if e.end < n {
-        return fault::at(e.end, fault::NOT_OPTIONAL);
-    }
-    if limits::MAX_NAME < owl_words::word(line, 1).len() {
-        return fault::at(1, fault::LONG_NAME);
-    }
-    if limits::MAX_BYTES < e.many {
-        return fault::at(SHORTEST, fault::NO_COUNT);
-    }
-    fault::none()
+    0
 }
 
-// ---- the call
+// ---- the call, and the target's mark and default
 
 // What no scalar has as its width is refused by the call.
-fn array_size(width: u8, many: usize) -> u16 {
-    let n = (many % (limits::MAX_BYTES + 1)) as u16;
-    match width {
+fn size_of(kind: u8, many: u16) -> u16 {
+    let n = many % 4097;
+    match kind % 16 {
         1 => n,
         2 => 2 * n,
         4 => 4 * n,
@@ -85,107 +84,82 @@ fn array_size(width: u8, many: usize) -> u16 {
     }
 }
 
-fn typed(cat: &[u8], type_id: u8, e: Extras) -> Call {
-    let width = types::width(cat, type_id);
-    if types::class(cat, type_id) == types::STRING {
-        return Call::Text(type_id, (e.many % 65536) as u16);
-    }
+fn scalar(name: &[u8], room: &Room, id: u16, t: u8, kind: u8, e: Extras, s: State) -> State {
+    let size = size_of(kind, e.many);
     if e.counted {
-        return Call::Scalar(type_id, array_size(width, e.many), types::array_flag(cat));
+        let flag = lent::byte_at(room, types::TYPES);
+        return calls::scalar(name, room, id, t, size, flag, s);
     }
-    Call::Scalar(type_id, width as u16, 0)
+    calls::scalar(name, room, id, t, size, 0, s)
 }
 
-// Of a struct that is closed.
-fn nested(k: usize, e: Extras) -> Call {
-    let number = (k % 65536) as u16;
+fn nested(name: &[u8], room: &Room, id: u16, k: u16, e: Extras, s: State) -> State {
     if e.counted {
-        return Call::Nested(number, Times::Array((e.many % 65536) as u16));
+        return calls::nested(name, room, id, k, Times::Array(e.many), s);
     }
-    Call::Nested(number, Times::One)
+    calls::nested(name, room, id, k, Times::One, s)
 }
 
-fn call_of(room: &Room, structs: u8, word: &[u8], e: Extras) -> Call {
-    if let Parsed::Is(id) = types::of_word(word) {
-        return typed(room::catalogue(room), (id % 256) as u8, e);
+fn called(name: &[u8], room: &Room, id: u16, t: usize, kind: u8, e: Extras, s: State) -> State {
+    if types::TYPES <= t {
+        return nested(name, room, id, ((t - types::TYPES) % 256) as u16, e, s);
     }
-    match pack::named(
-        Holder::Struct,
-        room::block(room, state::SOURCE),
-        structs,
-        word,
-    ) {
-        Parsed::Is(k) => nested(k, e),
-        Parsed::Malformed => Call::Unknown,
+    if kind / 16 == types::STRING {
+        return calls::string(name, room, id, t as u8, e.many, s);
     }
+    scalar(name, room, id, t as u8, kind, e, s)
 }
 
-fn call_flaw(call: Call, e: Extras) -> Flaw {
-    match call {
-        Call::Unknown => fault::at(3, fault::NO_TYPE),
-        Call::Text(_, _) => {
-            if e.counted {
-                fault::none()
-            } else {
-                fault::at(SHORTEST, fault::NO_COUNT)
-            }
-        }
-        _ => fault::none(),
+fn kept(line: &[u8], room: &mut Room, kind: u8, e: Extras, s: State) -> State {
+    if (s.why != fault::FINE) | !(e.marked | e.defaulted) {
+        return s;
     }
-}
-
-// ---- behind the call: the state, and the target's mark and default
-
-fn marked(room: &mut Room, call: Call, e: Extras, s: State, c: FieldCursor) -> bool {
-    match call {
-        Call::Scalar(type_id, _, _) => {
-            if e.counted {
-                return false;
-            }
-            defaults::marked(room, type_id, s, c)
-        }
-        _ => false,
-    }
-}
-
-fn kept(line: &[u8], room: &mut Room, call: Call, e: Extras, s: State, c: FieldCursor) -> Took {
-    let mut next = s;
-    next.cursor = c;
-    if (e.marked | e.defaulted) & (s.open != state::TARGET) {
+    if s.open != state::TARGET {
         return state::bad(s, SHORTEST, fault::NO_DEFAULT);
     }
     if e.marked {
-        if !marked(room, call, e, s, c) {
+        if e.counted | !defaults::mark(room, kind, s) {
             return state::bad(s, 3, fault::NO_MARK);
         }
     }
     if e.defaulted {
-        return defaults::defaulted(line, room, e, next, c);
+        return defaults::put(line, room, e.end, s);
     }
-    Took::Next(next)
+    s
 }
 
-fn placed(line: &[u8], room: &mut Room, call: Call, e: Extras, s: State) -> Took {
-    let Parsed::Is(id) = caseline::short(owl_words::word(line, 2)) else {
+fn typed(line: &[u8], room: &mut Room, e: Extras, s: State) -> State {
+    let t = type_of(owl_words::word(line, 3), room, s.structs);
+    if t == types::TYPES + lent::wide8(s.structs) {
+        return state::bad(s, 3, fault::NO_TYPE);
+    }
+    let kind = kind_of(room, t);
+    if (kind / 16 == types::STRING) & !e.counted {
+        return state::bad(s, SHORTEST, fault::NO_COUNT);
+    }
+    let id = words::number(line, 2);
+    if id == words::NONE {
         return state::bad(s, 2, fault::NO_NUMBER);
-    };
-    let name = owl_words::word(line, 1);
-    match calls::on_cursor(room, s.cursor, call, (id % 65536) as u16, name) {
-        Placed::At(c) => kept(line, room, call, e, s, c),
-        Placed::Refused(r) => state::bad(s, 3, state::number(r)),
     }
+    let name = owl_words::word(line, 1);
+    let next = called(name, room, (id % 65536) as u16, t, kind, e, s);
+    kept(line, room, kind, e, next)
 }
 
-pub fn take(line: &[u8], room: &mut Room, s: State) -> Took {
+pub fn take(line: &[u8], room: &mut Room, s: State) -> State {
     let e = extras_of(line);
-    let flaw = word_flaw(line, e, s);
-    if flaw.why != fault::FINE {
-        return state::bad(s, flaw.word, flaw.why);
+    let n = owl_words::words(line);
+    if n < e.end {
+        return state::bad(s, n, fault::TOO_FEW);
     }
-    let call = call_of(room, s.structs, owl_words::word(line, 3), e);
-    let wrong = call_flaw(call, e);
-    if wrong.why != fault::FINE {
-        return state::bad(s, wrong.word, wrong.why);
+    if e.end < n {
+        return state::bad(s, e.end, fault::NOT_OPTIONAL);
     }
-    placed(line, room, call, e, s)
+    if limits::MAX_NAME < owl_words::word(line, 1).len() {
+        return state::bad(s, 1, fault::LONG_NAME);
+    }
+    if MOST < e.many {
+        return state::bad(s, SHORTEST, fault::NO_COUNT);
+    }
+    typed(line, room, e, s)
 }

@@ -1,8 +1,7 @@
 // The blocks of both layouts (docs/FORMATS.md), by side: the source's or the target's.
-ghost use Prim.Native.Nat.{_<_, _≤_};
+ghost use Prim.Native.Nat.{_≤_};
 use crate::room;
 use crate::room::Room;
-use caseline::Parsed;
 use caseline::put;
 use layout::block;
 use layout::block::Holder;
@@ -22,73 +21,64 @@ const STRUCT_NAME_AT: usize = 12;
 
 // A number of four bytes, low byte first, or two of two bytes.
 fn four(room: &mut Room, at: usize, n: usize) {
-    let bytes = [
-        (n % 256) as u8,
-        (n / 256 % 256) as u8,
-        (n / 65536 % 256) as u8,
-        (n / 16777216 % 256) as u8,
-    ];
-    put::text(room, at, &bytes);
+    if at < room::SIZE - 3 {
+        lent::words::store_four(room, at, n as u64);
+    }
 }
 
 // ---- heads
 
 // Where the first table begins.
 pub fn put_counts(room: &mut Room, side: u8, records: u8, structs: u8) -> usize {
-    let many = lent::wide8(records);
-    let nested = lent::wide8(structs);
+    let many = records as usize;
+    let nested = structs as usize;
     four(room, room::start(side), many + 65536 * nested);
     block::record_head(0) + block::RECORD_HEAD * many + block::STRUCT_HEAD * nested
 }
 
-fn head(holder: Holder, l: &[u8], k: u8) -> usize
-    ensures { λ r. ⌜ r < 7864320 ⌝ }
+fn name_at(holder: Holder, l: &[u8], k: u8) -> usize
+    ensures { λ r. ⌜ r ≤ 8000000 ⌝ }
 {
     match holder {
-        Holder::Record => block::record_head(lent::wide8(k)),
-        Holder::Struct => block::struct_head(l, k as u16),
-    }
-}
-
-fn name_at(holder: Holder) -> usize
-    ensures { λ r. ⌜ r ≤ 32 ⌝ }
-{
-    match holder {
-        Holder::Record => NAME_AT,
-        Holder::Struct => STRUCT_NAME_AT,
+        Holder::Record => block::record_head(k as usize) + NAME_AT,
+        Holder::Struct => block::struct_head(l, k as u16) + STRUCT_NAME_AT,
     }
 }
 
 pub fn put_name(holder: Holder, room: &mut Room, side: u8, k: u8, name: &[u8]) {
-    let at = room::start(side) + head(holder, room::block(room, side), k) + name_at(holder);
+    let at = room::start(side) + name_at(holder, room::block(room, side), k);
     let behind = put::byte(room, at, (name.len() % 256) as u8);
     put::text(room, behind, name);
 }
 
 pub fn name_of(holder: Holder, l: &[u8], k: u8) -> &[u8] {
-    let at = head(holder, l, k) + name_at(holder);
-    lent::part(l, at + 1, lent::wide8(lent::byte_at(l, at)))
+    let at = name_at(holder, l, k);
+    lent::part(l, at + 1, lent::byte_at(l, at) as usize)
 }
 
 pub fn rtype_of(l: &[u8], k: u8) -> u16 {
-    lent::u16_at(l, head(Holder::Record, l, k))
+    lent::u16_at(l, block::record_head(k as usize))
 }
 
-// Which of the first n has this name.
-pub fn named(holder: Holder, l: &[u8], n: u8, name: &[u8]) -> Parsed {
+// Which of the first n has this name, or n.
+pub fn named(holder: Holder, l: &[u8], n: u8, name: &[u8]) -> u8 {
     let mut k: u8 = 0;
     while k < n {
         if lent::same(name_of(holder, l, k), name) {
-            return Parsed::Is(lent::wide8(k));
+            return k;
         }
         k += 1;
     }
-    Parsed::Malformed
+    n
 }
 
-pub fn open_record(room: &mut Room, side: u8, k: u8, rtype: u16, schema: u16, name: &[u8]) {
-    let at = room::start(side) + block::record_head(lent::wide8(k));
-    four(room, at, lent::wide16(rtype) + 65536 * lent::wide16(schema));
+// The numbers are the rtype and, in the high two bytes, the schema.
+pub fn open_record(room: &mut Room, side: u8, k: u8, numbers: usize, name: &[u8]) {
+    four(
+        room,
+        room::start(side) + block::record_head(k as usize),
+        numbers,
+    );
     put_name(Holder::Record, room, side, k, name);
 }
 
@@ -99,11 +89,10 @@ fn put_part(room: &mut Room, side: u8, at: usize, end: usize, part: &[u8]) -> us
 {
     let start = room::start(side);
     let from = lent::lesser(end, room::BLOCK);
-    let n = lent::lesser(part.len(), room::BLOCK);
     four(room, start + at, from);
-    four(room, start + at + 4, n);
+    four(room, start + at + 4, part.len());
     put::text(room, start + from, part);
-    from + n
+    from + part.len() % room::BLOCK
 }
 
 pub fn close_record(
@@ -115,7 +104,7 @@ pub fn close_record(
     table: &[u8],
     names: &[u8],
 ) -> usize {
-    let at = block::record_head(lent::wide8(k));
+    let at = block::record_head(k as usize);
     four(room, room::start(side) + at + BASE_AT, base);
     let next = put_part(room, side, at + TABLE_AT, end, table);
     put_part(room, side, at + NAMES_AT, next, names)
@@ -129,7 +118,7 @@ pub fn close_struct(
     size: usize,
     table: &[u8],
 ) -> usize {
-    let at = head(Holder::Struct, room::block(room, side), k);
+    let at = block::struct_head(room::block(room, side), k as u16);
     four(room, room::start(side) + at, size);
     put_part(room, side, at + STRUCT_TABLE_AT, end, table)
 }

@@ -8,17 +8,17 @@ pub const CATALOGUE: usize = 262;
 
 pub const BLOCK: usize = 65536;
 
-// The fields and the names of the record that is open.
+// The fields and the names of the record that is open stand apart, since the field cursor writes to both.
 pub const ROWS: usize = field::SIZE * limits::MAX_FIELDS;
 
 pub const NAMES: usize = block::NAME * limits::MAX_FIELDS;
 
-pub const ROWS_AT: usize = CATALOGUE;
+pub type Rows = [u8; ROWS];
 
-pub const NAMES_AT: usize = ROWS_AT + ROWS;
+pub type Names = [u8; NAMES];
 
 // The blocks of both layouts. Behind each is room for one record more: a block that grew too long is refused before it reaches the next part.
-const SOURCE_AT: usize = NAMES_AT + NAMES;
+const SOURCE_AT: usize = CATALOGUE;
 
 const TARGET_AT: usize = SOURCE_AT + BLOCK + ROWS + NAMES;
 

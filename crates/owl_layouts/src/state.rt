@@ -1,9 +1,10 @@
-// What is known between two lines: numbers, by value.
-use crate::fault::Fault;
+// What is known between two lines, and what is wrong with the text: numbers, by value.
+use crate::fault;
+use crate::room;
+use crate::room::Names;
+use crate::room::Rows;
 use builders::FieldCursor;
 use layout::block::Holder;
-use limits::refusal;
-use limits::refusal::Refusal;
 use tuppenceowl::building;
 
 // What the next field belongs to.
@@ -19,14 +20,20 @@ pub const STRUCT: u8 = 3;
 pub const HEADER: usize = 16;
 
 pub struct State {
+    // The line, counted from 1, and where it begins in the text.
     pub line: usize,
     pub from: usize,
+    // What is wrong there, if anything is, and with which word, counted from 0: the item's own.
+    pub why: usize,
+    pub word: usize,
     pub open: u8,
     // The line that opened it.
     pub opened: usize,
     pub opened_from: usize,
     pub cursor: FieldCursor,
-    // How many are open or closed.
+    pub rows: Rows,
+    pub names: Names,
+    // How many are closed.
     pub sources: u8,
     pub targets: u8,
     pub structs: u8,
@@ -44,21 +51,19 @@ pub struct State {
     pub target: u8,
 }
 
-// What a line leaves.
-pub enum Took {
-    Next(State),
-    Bad(Fault),
-}
-
 pub fn start(source_end: usize, target_end: usize) -> State {
     let cursor = building::empty(Holder::Record);
     State {
         line: 0,
         from: 0,
+        why: fault::FINE,
+        word: 0,
         open: NOTHING,
         opened: 0,
         opened_from: 0,
         cursor,
+        rows: [0u8; room::ROWS],
+        names: [0u8; room::NAMES],
         sources: 0,
         targets: 0,
         structs: 0,
@@ -74,26 +79,9 @@ pub fn start(source_end: usize, target_end: usize) -> State {
     }
 }
 
-pub fn bad(s: State, word: usize, why: usize) -> Took {
-    Took::Bad(Fault {
-        line: s.line,
-        from: s.from,
-        word,
-        why,
-    })
-}
-
-// Of the record or struct that is open.
-pub fn bad_whole(s: State, why: usize) -> Took {
-    Took::Bad(Fault {
-        line: s.opened,
-        from: s.opened_from,
-        word: 1,
-        why,
-    })
-}
-
-// A public call's answer.
-pub fn number(r: Refusal) -> usize {
-    lent::wide8(refusal::number(r))
+pub fn bad(s: State, word: usize, why: usize) -> State {
+    let mut next = s;
+    next.word = word;
+    next.why = why;
+    next
 }

@@ -2,7 +2,8 @@
 use crate::room::Room;
 use caseline::Parsed;
 
-const ARRAY_FLAG_AT: usize = 256;
+// The numbers that a type may have. Behind their kinds the catalogue has the flag of an array.
+pub const TYPES: usize = 256;
 
 pub const UNSIGNED: u8 = 1;
 
@@ -10,21 +11,8 @@ pub const SIGNED: u8 = 2;
 
 pub const STRING: u8 = 4;
 
-// A type of another catalogue is its number.
-fn numbered(word: &[u8]) -> Parsed {
-    match caseline::number(word) {
-        Parsed::Is(n) => {
-            if n < 256 {
-                Parsed::Is(n)
-            } else {
-                Parsed::Malformed
-            }
-        }
-        Parsed::Malformed => Parsed::Malformed,
-    }
-}
-
-pub fn of_word(word: &[u8]) -> Parsed {
+// The type's number, below TYPES where it is a type; one of another catalogue is named by its number.
+pub fn of_word(word: &[u8]) -> usize {
     let k = owl_words::which(
         b"u8 u16 u32 u64 i8 i16 i32 i64 price cstr symbol char timestamp \
         enum16 enumchar enum8 bits8 bits16 bits32 bits64 f32 f64",
@@ -37,9 +25,12 @@ pub fn of_word(word: &[u8]) -> Parsed {
         k,
     );
     if id != 0 {
-        return Parsed::Is(lent::wide8(id));
+        return id as usize;
     }
-    numbered(word)
+    match caseline::number(word) {
+        Parsed::Is(n) => n,
+        Parsed::Malformed => TYPES,
+    }
 }
 
 // ---- the catalogue: 16 x class + width at each number, sixteen in a row; then the flags (docs/FORMATS.md)
@@ -65,16 +56,4 @@ pub fn put_catalogue(room: &mut Room) {
         804001000000",
         room,
     );
-}
-
-pub fn class(cat: &[u8], id: u8) -> u8 {
-    lent::byte_at(cat, lent::wide8(id)) / 16
-}
-
-pub fn width(cat: &[u8], id: u8) -> u8 {
-    lent::byte_at(cat, lent::wide8(id)) % 16
-}
-
-pub fn array_flag(cat: &[u8]) -> u8 {
-    lent::byte_at(cat, ARRAY_FLAG_AT)
 }

@@ -1,74 +1,66 @@
 // What opens a record or a struct, and what closes it: the cursor finishes it, and it is packed into its block.
+use crate::calls;
 use crate::fault;
-use crate::fault::Flaw;
 use crate::pack;
 use crate::room;
 use crate::room::Room;
 use crate::state;
 use crate::state::State;
-use crate::state::Took;
-use builders::FieldCursor;
-use builders::Placed;
-use caseline::Parsed;
-use caseline::put;
+use crate::words;
 use layout::block;
 use layout::block::Holder;
 use tuppenceowl::building;
 
 // ---- opening
 
-fn opened(s: State, open: u8, holder: Holder) -> Took {
+fn opened(s: State, open: u8, holder: Holder) -> State {
     let cursor = building::empty(holder);
     let mut next = s;
     next.open = open;
     next.opened = s.line;
     next.opened_from = s.from;
     next.cursor = cursor;
-    Took::Next(next)
+    next
 }
 
 // The words of a line that opens one more, where `count` are.
-fn opening_flaw(line: &[u8], words: usize, count: u8, most: usize) -> Flaw {
-    let flaw = fault::of_count(line, words);
-    if flaw.why != fault::FINE {
-        return flaw;
+fn checked(line: &[u8], words: usize, count: u8, most: usize, s: State) -> State {
+    let counted = words::counted(line, words, s);
+    if counted.why != fault::FINE {
+        return counted;
     }
     if limits::MAX_NAME < owl_words::word(line, 1).len() {
-        return fault::at(1, fault::LONG_NAME);
+        return state::bad(s, 1, fault::LONG_NAME);
     }
-    if most <= lent::wide8(count) {
-        return fault::at(0, fault::FULL_LAYOUT);
+    if most <= count as usize {
+        return state::bad(s, 0, fault::FULL_LAYOUT);
     }
-    fault::none()
+    s
 }
 
-pub fn open_record(line: &[u8], room: &mut Room, side: u8, count: u8, s: State) -> Took {
-    let flaw = opening_flaw(line, 4, count, limits::MAX_RECORDS);
-    if flaw.why != fault::FINE {
-        return state::bad(s, flaw.word, flaw.why);
+pub fn open_record(line: &[u8], room: &mut Room, side: u8, count: u8, s: State) -> State {
+    let fine = checked(line, 4, count, limits::MAX_RECORDS, s);
+    if fine.why != fault::FINE {
+        return fine;
     }
-    let Parsed::Is(rtype) = caseline::short(owl_words::word(line, 2)) else {
+    let rtype = words::number(line, 2);
+    if rtype == words::NONE {
         return state::bad(s, 2, fault::NO_NUMBER);
-    };
-    let Parsed::Is(schema) = caseline::short(owl_words::word(line, 3)) else {
+    }
+    let schema = words::number(line, 3);
+    if schema == words::NONE {
         return state::bad(s, 3, fault::NO_NUMBER);
-    };
-    pack::open_record(
-        room,
-        side,
-        count,
-        (rtype % 65536) as u16,
-        (schema % 65536) as u16,
-        owl_words::word(line, 1),
-    );
+    }
+    let name = owl_words::word(line, 1);
+    pack::open_record(room, side, count, rtype + 65536 * schema, name);
     opened(s, side, Holder::Record)
 }
 
 // A struct belongs to both layouts.
-pub fn open_struct(line: &[u8], room: &mut Room, s: State) -> Took {
-    let flaw = opening_flaw(line, 2, s.structs, limits::MAX_STRUCTS);
-    if flaw.why != fault::FINE {
-        return state::bad(s, flaw.word, flaw.why);
+pub fn open_struct(line: &[u8], room: &mut Room, s: State) -> State {
+    let fine = checked(line, 2, s.structs, limits::MAX_STRUCTS, s);
+    if fine.why != fault::FINE {
+        return fine;
     }
     let name = owl_words::word(line, 1);
     pack::put_name(Holder::Struct, room, state::SOURCE, s.structs, name);
@@ -78,101 +70,65 @@ pub fn open_struct(line: &[u8], room: &mut Room, s: State) -> Took {
 
 // ---- closing
 
-fn more(n: u8) -> u8 {
-    if n < 255 {
-        return n + 1;
-    }
-    n
+fn closed_record(room: &mut Room, s: State, k: u8, end: usize) -> usize {
+    let rows = s.rows;
+    let names = s.names;
+    let n = lent::lesser(s.cursor.count, limits::MAX_FIELDS);
+    let table = lent::part(&rows, 0, field::SIZE * n);
+    let titles = lent::part(&names, 0, block::NAME * n);
+    pack::close_record(room, s.open, k, end, s.cursor.base, table, titles)
 }
 
-// A record of a side, or a struct of both.
-fn closed(room: &mut Room, s: State, c: FieldCursor, table: &[u8], names: &[u8]) -> State {
+fn closed_struct(room: &mut Room, s: State, side: u8, end: usize) -> usize {
+    let rows = s.rows;
+    let n = lent::lesser(s.cursor.count, limits::MAX_FIELDS);
+    let table = lent::part(&rows, 0, field::SIZE * n);
+    pack::close_struct(room, side, s.structs, end, s.cursor.cursor, table)
+}
+
+// A record of a side, or a struct of both; there are at most sixteen of each.
+fn closed(room: &mut Room, s: State) -> State {
     let mut next = s;
     let open = s.open;
     match open {
         state::SOURCE => {
-            next.source_end = pack::close_record(
-                room,
-                open,
-                s.sources,
-                s.source_end,
-                c.base,
-                table,
-                names,
-            );
-            next.sources = more(s.sources);
+            next.source_end = closed_record(room, s, s.sources, s.source_end);
+            next.sources = s.sources % 255 + 1;
         }
         state::TARGET => {
-            next.target_end = pack::close_record(
-                room,
-                open,
-                s.targets,
-                s.target_end,
-                c.base,
-                table,
-                names,
-            );
-            next.targets = more(s.targets);
+            next.target_end = closed_record(room, s, s.targets, s.target_end);
+            next.targets = s.targets % 255 + 1;
         }
         _ => {
-            next.source_end = pack::close_struct(
-                room,
-                state::SOURCE,
-                s.structs,
-                s.source_end,
-                c.cursor,
-                table,
-            );
-            next.target_end = pack::close_struct(
-                room,
-                state::TARGET,
-                s.structs,
-                s.target_end,
-                c.cursor,
-                table,
-            );
-            next.structs = more(s.structs);
+            next.source_end = closed_struct(room, s, state::SOURCE, s.source_end);
+            next.target_end = closed_struct(room, s, state::TARGET, s.target_end);
+            next.structs = s.structs % 255 + 1;
         }
     }
+    next.open = state::NOTHING;
     next
 }
 
-fn with_room(s: State) -> Took {
-    if room::BLOCK <= lent::greater(s.source_end, s.target_end) {
-        return state::bad_whole(s, fault::FULL_ROOM);
-    }
-    let mut next = s;
-    next.open = state::NOTHING;
-    Took::Next(next)
+// A fault of the whole is one of the line that opened it.
+fn at_opening(s: State, why: usize) -> State {
+    let mut next = state::bad(s, 1, why);
+    next.line = s.opened;
+    next.from = s.opened_from;
+    next
 }
 
 // Finishes what is open.
-fn finish(room: &mut Room, s: State) -> Took {
-    let mut rows = [0u8; room::ROWS];
-    let mut names = [0u8; room::NAMES];
-    put::text(&mut rows, 0, lent::part(room, room::ROWS_AT, room::ROWS));
-    put::text(&mut names, 0, lent::part(room, room::NAMES_AT, room::NAMES));
-    let ids = [0u16; 1];
-    match building::finish(
-        room::catalogue(room),
-        &mut rows,
-        &mut names,
-        s.cursor,
-        &ids[0..0],
-    ) {
-        Placed::At(c) => {
-            let n = lent::lesser(c.count, limits::MAX_FIELDS);
-            let table = lent::part(&rows, 0, field::SIZE * n);
-            let titles = lent::part(&names, 0, block::NAME * n);
-            with_room(closed(room, s, c, table, titles))
-        }
-        Placed::Refused(r) => state::bad_whole(s, state::number(r)),
-    }
-}
-
-pub fn close(room: &mut Room, s: State) -> Took {
+pub fn close(room: &mut Room, s: State) -> State {
     if s.open == state::NOTHING {
-        return Took::Next(s);
+        return s;
     }
-    finish(room, s)
+    let finished = calls::finish(room, s);
+    if finished.why != fault::FINE {
+        return at_opening(s, finished.why);
+    }
+    let next = closed(room, finished);
+    if room::BLOCK <= lent::greater(next.source_end, next.target_end) {
+        return at_opening(s, fault::FULL_ROOM);
+    }
+    next
 }

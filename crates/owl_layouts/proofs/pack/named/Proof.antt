@@ -19,9 +19,6 @@ name-of-requires c κs = search needs
 same-requires : tie.Need-same-requires Inv-loop μ-loop
 same-requires c κs = search needs
 
-wide8-requires : tie.Need-wide8-requires Inv-loop μ-loop
-wide8-requires c κs = search needs
-
 returns : tie.Need-returns Inv-loop μ-loop
 returns c = search needs
 
@@ -46,7 +43,6 @@ named-spec =
     loop-holds
     name-of-requires
     same-requires
-    wide8-requires
     returns
     add-k
     loop-less

@@ -1,8 +1,8 @@
 -- A turn for each record that a layout may have.
 use Prim.Native.Nat.{_-_, _≤_}
 use borrow.Author.Needs.{needs}
-use Rattle.owl_making.proofs.hashes.Statement.{statement}
-use Rattle.owl_making.proofs.hashes.Tie as tie
+use Rattle.owl.proofs.making.hashes.Statement.{statement}
+use Rattle.owl.proofs.making.hashes.Tie as tie
 
 abbrev Inv-loop : tie.InvT-loop
 Inv-loop side cat l k₀ k = k ≤ 16

@@ -1,7 +1,7 @@
 // Faults of a text of layouts: what was wrong, where, and what was expected.
 use libc::STDERR_FILENO;
 use owl_layouts::fault;
-use owl_layouts::fault::Fault;
+use owl_layouts::state::State;
 use owl_say::files;
 use owl_say::form;
 use owl_say::refusals;
@@ -100,9 +100,9 @@ fn quote(line: &[u8], k: usize) {
     owl_say::complain(b"': ");
 }
 
-pub fn say(text: &[u8], f: Fault) {
-    place(f.line);
-    let line = owl_words::content(line_from(text, f.from));
-    quote(line, f.word);
-    say_why(line, f.why);
+pub fn say(text: &[u8], s: State) {
+    place(s.line);
+    let line = owl_words::content(line_from(text, s.from));
+    quote(line, s.word);
+    say_why(line, s.why);
 }

@@ -20,9 +20,9 @@ pub const PLAN: usize = 8;
 
 pub const PUT: usize = 9;
 
-pub const BEGIN: usize = 10;
+pub const APPLY: usize = 10;
 
-pub const BUILT: usize = 11;
+pub const UPGRADE: usize = 11;
 
 pub const CATALOGUE: usize = 12;
 
@@ -54,13 +54,13 @@ pub const BY_NAME: usize = 25;
 
 pub const SELECT: usize = 26;
 
-pub const WRITE_PLAN: usize = 27;
+pub const BEGIN: usize = 27;
 
-pub const READ_PLAN: usize = 28;
+pub const BUILT: usize = 28;
 
-pub const APPLY: usize = 29;
+pub const WRITE_PLAN: usize = 29;
 
-pub const UPGRADE: usize = 30;
+pub const READ_PLAN: usize = 30;
 
 // What is none of them, or has something else behind it, is malformed.
 pub const MALFORMED: usize = 31;
@@ -79,8 +79,8 @@ finish_base
 finish H
 plan nnnBMnnH
 put nH
-begin *
-built f*
+apply nnHnT
+upgrade nHsnnHnT
 catalogue C
 layout H
 size n
@@ -96,10 +96,10 @@ verdict_of sH
 by_id ss
 by_name sH
 select ndH
+begin k*
+built f*
 write_plan rnHW
 read_plan rH
-apply nnHnT
-upgrade nHsnnHnT
 ",
     )
 }
@@ -146,16 +146,13 @@ fn shaped(line: &[u8], kinds: &[u8]) -> bool {
 }
 
 fn is_kind(text: &[u8], kind: u8) -> bool {
-    if kind == b'*' {
-        return true;
+    match kind {
+        b'*' => true,
+        b'd' => check::same(text, b"-") | at_most(text, 65535),
+        b'k' => check::same(text, b"record") | check::same(text, b"struct"),
+        b'A'..=b'Z' => caseline::is_hex(text) & (text.len() / 2 <= most(kind)),
+        _ => at_most(text, most(kind)),
     }
-    if kind == b'd' {
-        return check::same(text, b"-") | at_most(text, 65535);
-    }
-    if kind < b'a' {
-        return caseline::is_hex(text) & (text.len() / 2 <= most(kind));
-    }
-    at_most(text, most(kind))
 }
 
 fn at_most(text: &[u8], n: usize) -> bool {
@@ -166,7 +163,7 @@ fn at_most(text: &[u8], n: usize) -> bool {
 }
 
 // The largest number of a small letter; the most bytes in hex of a capital. Besides there are `d`, a number
-// of two bytes or a dash, and the star.
+// of two bytes or a dash, `k`, what a cursor may begin, and the star.
 fn most(kind: u8) -> usize {
     match kind {
         b'f' => limits::MAX_FIELDS,

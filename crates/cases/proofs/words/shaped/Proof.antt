@@ -2,8 +2,8 @@
 use Prim.Native.Nat.{_-_}
 use lib.ListN.{length}
 use borrow.Author.Needs.{needs}
-use Rattle.asks.proofs.words.shaped.Statement.{statement}
-use Rattle.asks.proofs.words.shaped.Tie as tie
+use Rattle.cases.proofs.words.shaped.Statement.{statement}
+use Rattle.cases.proofs.words.shaped.Tie as tie
 
 abbrev Inv-loop : tie.InvT-loop
 Inv-loop line kinds starred good₀ i₀ good i = Unit {0}

@@ -1,16 +1,15 @@
 // The plan and the hashes of a text of layouts.
-pub mod faults;
-
+use crate::faults;
 use layout::block::Holder;
 use libc::STDERR_FILENO;
 use libc::STDOUT_FILENO;
 use limits::refusal::Refusal;
+use owl_layouts::fault;
 use owl_layouts::pack;
 use owl_layouts::room;
 use owl_layouts::room::Room;
 use owl_layouts::state;
 use owl_layouts::state::State;
-use owl_layouts::state::Took;
 use owl_say::form;
 use owl_say::refusals;
 use plan_text::writer::Written;
@@ -43,7 +42,7 @@ fn refused(text: &[u8], s: State, to: u8, r: Refusal) {
         _ => 0,
     };
     if line == 0 {
-        faults::place(owl_layouts::line_of(text, b"target", to));
+        faults::place(owl_layouts::line_of(text, owl_layouts::TARGET, to));
     } else {
         faults::place(line);
     }
@@ -188,22 +187,20 @@ fn hashes(side: &[u8], cat: &[u8], l: &[u8]) {
 // Whether its plan stands in the slot; if not, it was said why.
 pub fn plan_of(text: &[u8], slot: &mut Slot) -> bool {
     let mut room = [0u8; room::SIZE];
-    match owl_layouts::read(text, &mut room) {
-        Took::Next(s) => plan(text, &room, s, slot),
-        Took::Bad(f) => {
-            faults::say(text, f);
-            false
-        }
+    let s = owl_layouts::read(text, &mut room);
+    if s.why != fault::FINE {
+        faults::say(text, s);
+        return false;
     }
+    plan(text, &room, s, slot)
 }
 
 pub fn say_hashes(text: &[u8]) {
     let mut room = [0u8; room::SIZE];
-    match owl_layouts::read(text, &mut room) {
-        Took::Next(s) => {
-            hashes(b"source ", room::catalogue(&room), source(&room, s));
-            hashes(b"target ", room::catalogue(&room), target(&room, s));
-        }
-        Took::Bad(f) => faults::say(text, f),
+    let s = owl_layouts::read(text, &mut room);
+    if s.why != fault::FINE {
+        return faults::say(text, s);
     }
+    hashes(b"source ", room::catalogue(&room), source(&room, s));
+    hashes(b"target ", room::catalogue(&room), target(&room, s));
 }

@@ -2,8 +2,8 @@
 use Prim.Native.Nat.{_-_, _≤_}
 use lib.ListN.{length}
 use borrow.Author.Needs.{needs}
-use Rattle.asks.proofs.words.listed.Statement.{statement}
-use Rattle.asks.proofs.words.listed.Tie as tie
+use Rattle.cases.proofs.words.listed.Statement.{statement}
+use Rattle.cases.proofs.words.listed.Tie as tie
 
 abbrev Inv-loop : tie.InvT-loop
 Inv-loop line list at₀ k₀ at k = k ≤ at

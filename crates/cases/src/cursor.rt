@@ -1,0 +1,80 @@
+// The words of the field cursor.
+use crate::answer;
+use crate::answer::Answer;
+use crate::answer::Out;
+use crate::given;
+use crate::kept;
+use crate::kept::Kept;
+use crate::kept::Made;
+use crate::kept::Slots;
+use crate::words;
+use builders::FieldCursor;
+use builders::Placed;
+use builders::Times;
+use tuppenceowl::building;
+
+// How many stand in an array is the size of the field that the line has.
+fn times(k: usize, n: u16) -> Times {
+    if k == words::NESTED {
+        return Times::One;
+    }
+    Times::Array(n)
+}
+
+// A field, of whose 16 bytes each call takes what it needs.
+fn place(
+    k: usize,
+    kept: &Kept,
+    cat: &[u8],
+    c: FieldCursor,
+    rows: &mut Made,
+    slots: &mut Slots,
+) -> Placed {
+    let def = field::field_at(given::bytes(kept, 1), 0);
+    let name = given::bytes(kept, 2);
+    let id = def.field_id;
+    let kind = def.type_id;
+    let size = def.size;
+    let flags = def.flags;
+    let index = def.def_index;
+    match k {
+        words::SCALAR => building::scalar(cat, rows, slots, c, id, kind, size, flags, index, name),
+        words::STRING => building::string(cat, rows, slots, c, id, kind, size, flags, name),
+        words::LIKE => building::like(cat, rows, slots, c, def, index, name),
+        _ => {
+            let l = kept::layout(kept);
+            building::nested(cat, l, rows, slots, c, id, index, times(k, size), name)
+        }
+    }
+}
+
+fn finish(kept: &Kept, cat: &[u8], c: FieldCursor, rows: &mut Made, slots: &mut Slots) -> Placed {
+    let mut ids = [0u16; 64];
+    let n = caseline::ids(given::bytes(kept, 1), &mut ids);
+    building::finish(cat, rows, slots, c, &ids[0..n])
+}
+
+pub fn call(k: usize, kept: &Kept, rows: &mut Made, slots: &mut Slots) -> Placed {
+    let cat = kept::catalogue(kept);
+    let c = kept::cursor(kept);
+    match k {
+        words::AT => building::at(cat, rows, slots, c, given::number(kept, 1)),
+        words::FINISH_BASE => building::finish_base(cat, rows, slots, c),
+        words::FINISH => finish(kept, cat, c, rows, slots),
+        _ => place(k, kept, cat, c, rows, slots),
+    }
+}
+
+pub fn placed(p: Placed) -> Answer {
+    match p {
+        Placed::At(c) => Answer::State(c),
+        Placed::Refused(r) => Answer::Refused(r),
+    }
+}
+
+// Behind the state the bytes of the first fields and names, of which some may not be placed yet.
+pub fn put_built(out: &mut Out, end: usize, kept: &Kept, made: &Made, slots: &Slots) -> usize {
+    let k = given::number(kept, 1) % (limits::MAX_FIELDS + 1);
+    let table = answer::put_bytes(out, end, lent::part(made, 0, field::SIZE * k));
+    answer::put_bytes(out, table, lent::part(slots, 0, layout::block::NAME * k))
+}
