@@ -1,7 +1,7 @@
 // Faults of a text of layouts: what was wrong, where, and what was expected.
+use crate::layouts::fault;
+use crate::layouts::state::State;
 use libc::STDERR_FILENO;
-use owl_layouts::fault;
-use owl_layouts::state::State;
 use owl_say::files;
 use owl_say::form;
 use owl_say::refusals;
@@ -29,7 +29,7 @@ fn say_form(line: &[u8]) {
     owl_say::complain(written);
 }
 
-// The messages in the order of owl_layouts::fault, parted by tabs.
+// The messages in the order of layouts::fault, parted by tabs.
 fn say_own(k: usize) {
     let message = caseline::word(
         b"no item; expected source target struct field at base header wanted plan catalogue\n\

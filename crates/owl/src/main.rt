@@ -2,6 +2,7 @@
 mod demo;
 mod faults;
 mod help;
+mod layouts;
 mod making;
 mod plans;
 

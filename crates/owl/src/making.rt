@@ -1,15 +1,17 @@
 // The plan and the hashes of a text of layouts.
 use crate::faults;
+use crate::layouts;
+use crate::layouts::fault;
+use crate::layouts::state;
+use crate::layouts::state::State;
 use layout::block::Holder;
 use libc::STDERR_FILENO;
 use libc::STDOUT_FILENO;
 use limits::refusal::Refusal;
-use owl_layouts::fault;
-use owl_layouts::pack;
-use owl_layouts::room;
-use owl_layouts::room::Room;
-use owl_layouts::state;
-use owl_layouts::state::State;
+use owl_blocks::pack;
+use owl_blocks::room;
+use owl_blocks::room::Room;
+use owl_say::files;
 use owl_say::form;
 use owl_say::refusals;
 use plan_text::writer::Written;
@@ -35,17 +37,21 @@ fn target(room: &Room, s: State) -> &[u8] {
 
 // ---- which records
 
-// A refusal, at the line of the item that it concerns: the header's, or else the target's.
-fn refused(text: &[u8], s: State, to: u8, r: Refusal) {
-    let line = match r {
-        Refusal::BadHeader => s.header_line,
-        _ => 0,
-    };
-    if line == 0 {
-        faults::place(owl_layouts::line_of(text, owl_layouts::TARGET, to));
-    } else {
-        faults::place(line);
+// A refusal, at the line of the item that it concerns: the header's, or else the target's; where there is none, behind the text.
+fn refused(room: &Room, s: State, to: u8, r: Refusal) {
+    let mut line = pack::line_of(room, to);
+    if s.targets == 0 {
+        line = lent::lesser(s.line, files::ROOM) + 1;
     }
+    match r {
+        Refusal::BadHeader => {
+            if s.header_line != 0 {
+                line = s.header_line;
+            }
+        }
+        _ => {}
+    }
+    faults::place(line);
     refusals::refused(STDERR_FILENO, r);
 }
 
@@ -109,26 +115,26 @@ fn planned(room: &Room, s: State, to: u8, slot: &mut Slot) -> Planned {
     )
 }
 
-fn plan_to(text: &[u8], room: &Room, s: State, to: u8, slot: &mut Slot) -> bool {
+fn plan_to(room: &Room, s: State, to: u8, slot: &mut Slot) -> bool {
     match planned(room, s, to, slot) {
         Planned::Made => return true,
         Planned::NoRecord => faults::of_file(
             b": a record is missing; expected a source and a target\n",
         ),
-        Planned::Refused(r) => refused(text, s, to, r),
+        Planned::Refused(r) => refused(room, s, to, r),
     }
     false
 }
 
 // Whether a plan stands in the slot; if not, it was said why.
-fn plan(text: &[u8], room: &Room, s: State, slot: &mut Slot) -> bool {
+fn plan(room: &Room, s: State, slot: &mut Slot) -> bool {
     match chosen(room, s) {
-        Selected::Record(to) => return plan_to(text, room, s, (to % 256) as u8, slot),
+        Selected::Record(to) => return plan_to(room, s, (to % 256) as u8, slot),
         Selected::Unplanned => no_target(room, s),
         Selected::NoRecord => faults::of_file(
             b": no source record; expected a line 'source NAME RTYPE SCHEMA'\n",
         ),
-        Selected::Refused(r) => refused(text, s, 0, r),
+        Selected::Refused(r) => refused(room, s, 0, r),
     }
     false
 }
@@ -187,17 +193,17 @@ fn hashes(side: &[u8], cat: &[u8], l: &[u8]) {
 // Whether its plan stands in the slot; if not, it was said why.
 pub fn plan_of(text: &[u8], slot: &mut Slot) -> bool {
     let mut room = [0u8; room::SIZE];
-    let s = owl_layouts::read(text, &mut room);
+    let s = layouts::read(text, &mut room);
     if s.why != fault::FINE {
         faults::say(text, s);
         return false;
     }
-    plan(text, &room, s, slot)
+    plan(&room, s, slot)
 }
 
 pub fn say_hashes(text: &[u8]) {
     let mut room = [0u8; room::SIZE];
-    let s = owl_layouts::read(text, &mut room);
+    let s = layouts::read(text, &mut room);
     if s.why != fault::FINE {
         return faults::say(text, s);
     }

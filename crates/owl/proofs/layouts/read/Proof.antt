@@ -2,8 +2,8 @@
 use Prim.Native.Nat.{_+_, _-_, _≤_}
 use borrow.Author.Needs.{needs}
 use lib.ListN.{length}
-use Rattle.owl_layouts.proofs.read.Statement.{statement}
-use Rattle.owl_layouts.proofs.read.Tie as tie
+use Rattle.owl.proofs.layouts.read.Statement.{statement}
+use Rattle.owl.proofs.layouts.read.Tie as tie
 
 abbrev Inv-loop : tie.InvT-loop
 Inv-loop text room₀ s₀ at₀ room s at = at ≤ length text + 1

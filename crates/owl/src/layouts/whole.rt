@@ -1,14 +1,14 @@
 // What opens a record or a struct, and what closes it: the cursor finishes it, and it is packed into its block.
-use crate::calls;
-use crate::fault;
-use crate::pack;
-use crate::room;
-use crate::room::Room;
-use crate::state;
-use crate::state::State;
-use crate::words;
+use crate::layouts::calls;
+use crate::layouts::fault;
+use crate::layouts::state;
+use crate::layouts::state::State;
+use crate::layouts::words;
 use layout::block;
 use layout::block::Holder;
+use owl_blocks::pack;
+use owl_blocks::room;
+use owl_blocks::room::Room;
 use tuppenceowl::building;
 
 // ---- opening
@@ -96,6 +96,7 @@ fn closed(room: &mut Room, s: State) -> State {
             next.sources = s.sources % 255 + 1;
         }
         state::TARGET => {
+            pack::put_line(room, s.targets, s.opened);
             next.target_end = closed_record(room, s, s.targets, s.target_end);
             next.targets = s.targets % 255 + 1;
         }

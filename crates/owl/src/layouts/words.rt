@@ -1,8 +1,8 @@
 // What several items ask of their words.
 ghost use Prim.Native.Nat.{_≤_};
-use crate::fault;
-use crate::state;
-use crate::state::State;
+use crate::layouts::fault;
+use crate::layouts::state;
+use crate::layouts::state::State;
 use caseline::Parsed;
 
 // What is no number of two bytes.

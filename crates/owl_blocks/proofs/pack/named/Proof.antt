@@ -1,8 +1,8 @@
 -- A turn for each name.
 use Prim.Native.Nat.{_-_, _≤_}
 use borrow.Author.Needs.{needs}
-use Rattle.owl_layouts.proofs.pack.named.Statement.{statement}
-use Rattle.owl_layouts.proofs.pack.named.Tie as tie
+use Rattle.owl_blocks.proofs.pack.named.Statement.{statement}
+use Rattle.owl_blocks.proofs.pack.named.Tie as tie
 
 abbrev Inv-loop : tie.InvT-loop
 Inv-loop holder l n name k₀ k = k ≤ n

@@ -1,15 +1,15 @@
 // The items inside a record that are no fields, and what the plan asks.
-use crate::calls;
-use crate::fault;
-use crate::pack;
-use crate::room;
-use crate::room::Room;
-use crate::state;
-use crate::state::State;
-use crate::words;
+use crate::layouts::calls;
+use crate::layouts::fault;
+use crate::layouts::state;
+use crate::layouts::state::State;
+use crate::layouts::words;
 use caseline::Parsed;
 use layout::block::Holder;
 use limits::refusal;
+use owl_blocks::pack;
+use owl_blocks::room;
+use owl_blocks::room::Room;
 use tuppenceowl::Admitted;
 
 // ---- inside a record

@@ -4,14 +4,13 @@ mod defaults;
 pub mod fault;
 mod fields;
 mod items;
-pub mod pack;
-pub mod room;
 pub mod state;
-mod types;
 mod whole;
 mod words;
 
-use room::Room;
+use owl_blocks::pack;
+use owl_blocks::room::Room;
+use owl_blocks::types;
 use state::State;
 
 const NEWLINE: u8 = b'\n';
@@ -20,7 +19,7 @@ const NEWLINE: u8 = b'\n';
 // The items by number; the first four close what is open.
 const SOURCE: usize = 0;
 
-pub const TARGET: usize = 1;
+const TARGET: usize = 1;
 
 const STRUCT: usize = 2;
 
@@ -68,23 +67,6 @@ fn count(text: &[u8], item: usize) -> u8 {
         at = end + 1;
     }
     n
-}
-
-// The line of item k of this kind, for a message.
-pub fn line_of(text: &[u8], item: usize, k: u8) -> usize {
-    let mut seen: u8 = 0;
-    let mut line: usize = 1;
-    let mut at = 0;
-    while at < text.len() {
-        let end = caseline::find(text, at, NEWLINE);
-        seen = counted(seen, &text[at..end], item);
-        if k < seen {
-            return line;
-        }
-        line += 1;
-        at = end + 1;
-    }
-    line
 }
 
 fn begun(text: &[u8], room: &mut Room) -> State {

@@ -1,15 +1,15 @@
--- A line starts inside, and there are no more lines than bytes.
+-- A line starts inside.
 use Prim.Native.Nat.{_+_, _-_, _≤_}
 use borrow.Author.Needs.{needs}
 use lib.ListN.{length}
-use Rattle.owl_layouts.proofs.line_of.Statement.{statement}
-use Rattle.owl_layouts.proofs.line_of.Tie as tie
+use Rattle.owl.proofs.layouts.count.Statement.{statement}
+use Rattle.owl.proofs.layouts.count.Tie as tie
 
 abbrev Inv-loop : tie.InvT-loop
-Inv-loop text item k seen₀ line₀ at₀ seen line at = (at ≤ length text + 1) × (line ≤ at + 1)
+Inv-loop text item n₀ at₀ n at = at ≤ length text + 1
 
 abbrev μ-loop : tie.MeasureT-loop
-μ-loop text item k seen₀ line₀ at₀ seen line at = length text + 1 - at
+μ-loop text item n₀ at₀ n at = length text + 1 - at
 
 loop-holds : tie.Need-loop-holds Inv-loop μ-loop
 loop-holds c = search needs
@@ -29,12 +29,6 @@ part-counted-end c = search needs
 counted-requires : tie.Need-counted-requires Inv-loop μ-loop
 counted-requires c κs = search needs
 
-returns : tie.Need-returns Inv-loop μ-loop
-returns c = search needs
-
-add-line : tie.Need-add-line Inv-loop μ-loop
-add-line c = search needs
-
 add-at : tie.Need-add-at Inv-loop μ-loop
 add-at c = search needs
 
@@ -44,11 +38,11 @@ loop-less c = search needs
 loop-again : tie.Need-loop-again Inv-loop μ-loop
 loop-again c = search needs
 
-returns-2 : tie.Need-returns-2 Inv-loop μ-loop
-returns-2 c = search needs
+returns : tie.Need-returns Inv-loop μ-loop
+returns c = search needs
 
-pub line-of-spec : {M : Type 1} → statement M
-line-of-spec =
+pub count-spec : {M : Type 1} → statement M
+count-spec =
     tie.close
     (tie.spec
     Inv-loop
@@ -59,9 +53,7 @@ line-of-spec =
     part-counted-start
     part-counted-end
     counted-requires
-    returns
-    add-line
     add-at
     loop-less
     loop-again
-    returns-2)
+    returns)

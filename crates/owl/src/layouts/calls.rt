@@ -1,13 +1,13 @@
 // The calls of the field cursor, on what is open.
-use crate::room;
-use crate::room::Names;
-use crate::room::Room;
-use crate::room::Rows;
-use crate::state;
-use crate::state::State;
+use crate::layouts::state;
+use crate::layouts::state::State;
 use builders::Placed;
 use builders::Times;
 use limits::refusal;
+use owl_blocks::room;
+use owl_blocks::room::Names;
+use owl_blocks::room::Room;
+use owl_blocks::room::Rows;
 use tuppenceowl::building;
 
 // What is open after an answer to a word of the line.

@@ -1,18 +1,18 @@
 // What is known between two lines, and what is wrong with the text: numbers, by value.
-use crate::fault;
-use crate::room;
-use crate::room::Names;
-use crate::room::Rows;
+use crate::layouts::fault;
 use builders::FieldCursor;
 use layout::block::Holder;
+use owl_blocks::room;
+use owl_blocks::room::Names;
+use owl_blocks::room::Rows;
 use tuppenceowl::building;
 
 // What the next field belongs to.
 pub const NOTHING: u8 = 0;
 
-pub const SOURCE: u8 = 1;
+pub const SOURCE: u8 = room::SOURCE;
 
-pub const TARGET: u8 = 2;
+pub const TARGET: u8 = room::TARGET;
 
 pub const STRUCT: u8 = 3;
 

@@ -1,13 +1,13 @@
 // The mark and the default of a target's field, which the cursor has just placed.
 ghost use Prim.Native.Nat.{_≤_};
-use crate::fault;
-use crate::room;
-use crate::room::Room;
-use crate::state;
-use crate::state::State;
-use crate::types;
+use crate::layouts::fault;
+use crate::layouts::state;
+use crate::layouts::state::State;
 use caseline::Parsed;
 use caseline::put;
+use owl_blocks::room;
+use owl_blocks::room::Room;
+use owl_blocks::types;
 
 // Which row is the last field's.
 fn last_row(s: State) -> usize

@@ -82,6 +82,15 @@ pub fn open_record(room: &mut Room, side: u8, k: u8, numbers: usize, name: &[u8]
     put_name(Holder::Record, room, side, k, name);
 }
 
+// The line that opened target record k.
+pub fn put_line(room: &mut Room, k: u8, line: usize) {
+    four(room, room::LINES_AT + 4 * k as usize, line);
+}
+
+pub fn line_of(room: &Room, k: u8) -> usize {
+    lent::u32_at(room, room::LINES_AT + 4 * k as usize)
+}
+
 // ---- tables and names, stored from `end` on; the answer is where the block ends then
 
 fn put_part(room: &mut Room, side: u8, at: usize, end: usize, part: &[u8]) -> usize

@@ -1,7 +1,11 @@
 // One room for all that a text of layouts is read into: a function takes it whole, and its length is part of its type.
 ghost use Prim.Native.Nat.{_≤_};
-use crate::state;
 use layout::block;
+
+// The sides.
+pub const SOURCE: u8 = 1;
+
+pub const TARGET: u8 = 2;
 
 // The catalogue stands at its start.
 pub const CATALOGUE: usize = 262;
@@ -22,12 +26,14 @@ const SOURCE_AT: usize = CATALOGUE;
 
 const TARGET_AT: usize = SOURCE_AT + BLOCK + ROWS + NAMES;
 
-// Of each target record the default of each byte, by offset, and a mark for each field.
+// Of each target record the default of each byte, by offset, a mark for each field, and the line that opened it, for a message.
 pub const BODIES_AT: usize = TARGET_AT + BLOCK + ROWS + NAMES;
 
 pub const MARKS_AT: usize = BODIES_AT + limits::MAX_RECORDS * limits::MAX_BYTES;
 
-pub const SIZE: usize = MARKS_AT + limits::MAX_RECORDS * limits::MAX_FIELDS;
+pub const LINES_AT: usize = MARKS_AT + limits::MAX_RECORDS * limits::MAX_FIELDS;
+
+pub const SIZE: usize = LINES_AT + 4 * limits::MAX_RECORDS;
 
 pub type Room = [u8; SIZE];
 
@@ -39,7 +45,7 @@ pub fn catalogue(room: &Room) -> &[u8] {
 pub fn start(side: u8) -> usize
     ensures { λ r. ⌜ r ≤ 100000 ⌝ }
 {
-    if side == state::TARGET {
+    if side == TARGET {
         return TARGET_AT;
     }
     SOURCE_AT

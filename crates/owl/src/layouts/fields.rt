@@ -1,17 +1,17 @@
 // The item 'field': its words, the call of the field cursor, and what a target's field has besides.
-use crate::calls;
-use crate::defaults;
-use crate::fault;
-use crate::pack;
-use crate::room;
-use crate::room::Room;
-use crate::state;
-use crate::state::State;
-use crate::types;
-use crate::words;
+use crate::layouts::calls;
+use crate::layouts::defaults;
+use crate::layouts::fault;
+use crate::layouts::state;
+use crate::layouts::state::State;
+use crate::layouts::words;
 use builders::Times;
 use caseline::Parsed;
 use layout::block::Holder;
+use owl_blocks::pack;
+use owl_blocks::room;
+use owl_blocks::room::Room;
+use owl_blocks::types;
 
 // Words of the shortest line, and where the first word that may be left out stands.
 const SHORTEST: usize = 4;
@@ -38,9 +38,10 @@ fn extras_of(line: &[u8]) -> Extras {
         counted = true;
     }
     let at = SHORTEST + lent::one(counted) as usize;
-    let marked = lent::same(owl_words::word(line, at), b"mark");
+    let options = b"mark default";
+    let marked = owl_words::which(options, owl_words::word(line, at)) == 0;
     let next = at + lent::one(marked) as usize;
-    let defaulted = lent::same(owl_words::word(line, next), b"default");
+    let defaulted = owl_words::which(options, owl_words::word(line, next)) == 1;
     let end = next + 2 * lent::one(defaulted) as usize;
     Extras {
         counted,
