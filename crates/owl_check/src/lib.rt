@@ -3,45 +3,41 @@
 pub mod flaw;
 pub mod lines;
 
-use lines::Look;
-use lines::Seen;
-
 const NEWLINE: u8 = b'\n';
 
-// What is wrong once every line was looked at.
-fn at_end(text: &[u8], s: Seen) -> Look {
-    if s.line < 2 {
-        return lines::flawed(lines::next(s), 0, flaw::MISSING);
+fn more(n: usize) -> usize {
+    if n < 1000000 {
+        return n + 1;
     }
-    if s.steps != s.count {
-        return lines::flawed(s, 0, flaw::STEP_COUNT);
-    }
-    if text.len() != 0 {
-        if lent::byte_at(text, text.len() - 1) != NEWLINE {
-            return lines::flawed(s, 0, flaw::NO_NEWLINE);
-        }
-    }
-    Look::Fine(s)
+    n
 }
 
-fn look(text: &[u8]) -> Look {
-    let mut s = lines::start();
-    let mut at = 0;
-    while at < text.len() {
-        let end = caseline::find(text, at, NEWLINE);
-        match lines::on_line(&text[at..end], lines::next(s)) {
-            Look::Fine(n) => s = n,
-            Look::Flawed(line, word, why) => return Look::Flawed(line, word, why),
-        }
-        at = end + 1;
+// What is wrong once so many lines were looked at, of as many; the last one may be cut off before its end.
+fn say_end(fd: i32, number: usize, lines: usize, cut: bool) {
+    if number < 2 {
+        flaw::say(fd, number + 1, flaw::MISSING);
+    } else if number != lines {
+        flaw::say(fd, number, flaw::STEP_COUNT);
+    } else if cut {
+        flaw::say(fd, number, flaw::NO_NEWLINE);
+    } else {
+        owl_say::to(fd, b": no plan (r16)\n");
     }
-    at_end(text, s)
 }
 
 // Says so behind the file's name.
 pub fn say(fd: i32, text: &[u8]) {
-    match look(text) {
-        Look::Fine(_) => owl_say::to(fd, b": no plan (r16)\n"),
-        Look::Flawed(line, word, why) => flaw::say(fd, line, word, why),
+    let mut seen = [0usize; 4];
+    let mut number: usize = 0;
+    let mut at = 0;
+    while at < text.len() {
+        let end = caseline::find(text, at, NEWLINE);
+        number = more(number);
+        let why = lines::look(&text[at..end], number, &mut seen);
+        if why != 0 {
+            return flaw::say(fd, number, why);
+        }
+        at = end + 1;
     }
+    say_end(fd, number, seen[lines::LINES], text.len() < at);
 }

@@ -1,218 +1,187 @@
 // One line of a plan's text after the other.
-ghost use Prim.Native.Nat.{_<_};
+ghost use Prim.Native.Nat.{_≤_};
 use crate::flaw;
+use crate::flaw::FIELD;
 use caseline::Parsed;
 
-// What the lines before said.
-pub struct Seen {
-    pub line: usize,
-    pub header: usize,
-    pub size: usize,
-    pub count: usize,
-    pub steps: usize,
-    // Where the last step ends.
-    pub end: usize,
-}
+// What the lines so far said, at the places below.
+pub type Seen = [usize; 4];
 
-pub enum Look {
-    Fine(Seen),
-    // Line, field and what is wrong.
-    Flawed(usize, usize, usize),
-}
+// How many bytes the body has, and the record.
+const BODY: usize = 0;
 
-pub fn start() -> Seen {
-    Seen {
-        line: 0,
-        header: 0,
-        size: 0,
-        count: 0,
-        steps: 0,
-        end: 0,
-    }
-}
+const SIZE: usize = 1;
 
-fn more(n: usize) -> usize {
-    if n < 1000000 {
-        return n + 1;
-    }
-    n
-}
+// How many lines the text has.
+pub const LINES: usize = 2;
 
-pub fn next(s: Seen) -> Seen {
-    let mut n = s;
-    n.line = more(s.line);
-    n
-}
-
-pub fn flawed(s: Seen, word: usize, why: usize) -> Look {
-    Look::Flawed(s.line, word, why)
-}
+// Where the last step ends.
+const END: usize = 3;
 
 // ---- words
 
-fn is_number(text: &[u8]) -> bool {
-    if text.len() != 1 {
-        if lent::byte_at(text, 0) == b'0' {
-            return false;
-        }
-    }
-    match caseline::short(text) {
-        Parsed::Is(_) => true,
-        Parsed::Malformed => false,
-    }
-}
+// In place of a number where a word is none.
+const NONE: usize = 65536;
 
 fn number(line: &[u8], k: usize) -> usize
-    ensures { λ r. ⌜ r < 65536 ⌝ }
+    ensures { λ r. ⌜ r ≤ 65536 ⌝ }
 {
-    match caseline::short(caseline::word(line, k)) {
-        Parsed::Is(n) => lent::lesser(n, 65535),
-        Parsed::Malformed => 0,
+    let text = caseline::word(line, k);
+    if (text.len() != 1) & (lent::byte_at(text, 0) == b'0') {
+        return NONE;
+    }
+    match caseline::short(text) {
+        Parsed::Is(n) => lent::lesser(n, NONE),
+        Parsed::Malformed => NONE,
     }
 }
 
-// The first word from `from` up to `to` that is no number, or `to`.
-fn first_bad(line: &[u8], from: usize, to: usize) -> usize {
+// The flaw of the first word from `from` up to `to` that is no number.
+fn not_number(line: &[u8], from: u8, to: u8) -> usize {
     let mut k = from;
     while k < to {
-        if !is_number(caseline::word(line, k)) {
-            return k;
+        if number(line, k as usize) == NONE {
+            return FIELD * (k as usize) + flaw::NUMBER;
         }
         k += 1;
     }
-    to
+    0
+}
+
+// The byte of a word of one, else 0.
+fn letter(line: &[u8], k: usize) -> u8 {
+    let text = caseline::word(line, k);
+    if text.len() == 1 {
+        return text[0];
+    }
+    0
 }
 
 // ---- the first two lines
 
-fn head_ok(line: &[u8]) -> bool {
-    let size = number(line, 7);
-    let header = number(line, 5);
-    let sizes = (number(line, 4) <= limits::MAX_BYTES) & (size <= limits::MAX_BYTES);
-    let inside = (header <= limits::MAX_HEADER) & (header <= size) & (number(line, 6) <= size);
-    sizes & inside & (number(line, 8) <= limits::MAX_STEPS)
-}
-
-fn look_plan(line: &[u8], s: Seen) -> Look {
+fn look_plan(line: &[u8], s: &mut Seen) -> usize {
     if !lent::same(caseline::word(line, 0), b"plan") {
-        return flawed(s, 0, flaw::PLAN_WORD);
+        return flaw::PLAN_WORD;
     }
     if caseline::words(line) != 9 {
-        return flawed(s, 0, flaw::WORDS);
+        return flaw::WORDS;
     }
-    if !lent::same(caseline::word(line, 1), b"1") {
-        return flawed(s, 1, flaw::EDITION);
+    if letter(line, 1) != b'1' {
+        return FIELD + flaw::EDITION;
     }
-    let bad = first_bad(line, 2, 9);
-    if bad < 9 {
-        return flawed(s, bad, flaw::NUMBER);
+    let bad = not_number(line, 2, 9);
+    if bad != 0 {
+        return bad;
     }
-    if !head_ok(line) {
-        return flawed(s, 0, flaw::HEAD);
+    let header = number(line, 5);
+    let size = number(line, 7);
+    let count = number(line, 8);
+    let sizes = (number(line, 4) <= limits::MAX_BYTES) & (size <= limits::MAX_BYTES);
+    let inside = (header <= limits::MAX_HEADER) & (header <= size) & (number(line, 6) <= size);
+    if !(sizes & inside & (count <= limits::MAX_STEPS)) {
+        return flaw::HEAD;
     }
-    let mut n = s;
-    n.header = number(line, 5);
-    n.size = number(line, 7);
-    n.count = number(line, 8);
-    n.end = n.header;
-    Look::Fine(n)
+    s[BODY] = lent::greater(size, header) - header;
+    s[SIZE] = size;
+    s[LINES] = 2 + count;
+    s[END] = header;
+    0
 }
 
-fn look_body(line: &[u8], s: Seen) -> Look {
+fn look_body(line: &[u8], s: &Seen) -> usize {
+    let bytes = caseline::word(line, 1);
     if !lent::same(caseline::word(line, 0), b"body") {
-        return flawed(s, 0, flaw::BODY_WORD);
+        return flaw::BODY_WORD;
     }
     if caseline::words(line) != 2 {
-        return flawed(s, 0, flaw::WORDS);
+        return flaw::WORDS;
     }
-    let mut space = [0u8; 65536];
-    let Parsed::Is(n) = caseline::hex(caseline::word(line, 1), &mut space) else {
-        return flawed(s, 1, flaw::HEX);
-    };
-    if n != lent::greater(s.size, s.header) - s.header {
-        return flawed(s, 1, flaw::BODY_LENGTH);
+    if !caseline::is_hex(bytes) {
+        return FIELD + flaw::HEX;
     }
-    Look::Fine(s)
+    if bytes.len() / 2 != s[BODY] {
+        return FIELD + flaw::BODY_LENGTH;
+    }
+    0
 }
 
 // ---- the steps
 
-fn placed(s: Seen, from: usize, to: usize, size: usize, wide: usize) -> Look {
-    let source = lent::lesser(from, 65535) + lent::lesser(size, 65535);
-    let end = lent::lesser(to, 65535) + lent::lesser(wide, 65535);
-    if limits::MAX_BYTES < source {
-        return flawed(s, 1, flaw::SOURCE_END);
+// A step of so many bytes of the source and of the target.
+fn look_places(line: &[u8], s: &mut Seen, size: usize, wide: usize) -> usize
+    requires { ⌜ (size ≤ 65536) × (wide ≤ 65536) ⌝ }
+{
+    let to = number(line, 2);
+    let end = to + wide;
+    if limits::MAX_BYTES < number(line, 1) + size {
+        return FIELD + flaw::SOURCE_END;
     }
-    if to < s.end {
-        return flawed(s, 2, flaw::ORDER);
+    if to < s[END] {
+        return 2 * FIELD + flaw::ORDER;
     }
-    if s.size < end {
-        return flawed(s, 2, flaw::TARGET_END);
+    if s[SIZE] < end {
+        return 2 * FIELD + flaw::TARGET_END;
     }
-    let mut n = s;
-    n.end = end;
-    n.steps = more(s.steps);
-    Look::Fine(n)
+    s[END] = end;
+    0
 }
 
-fn look_copy(line: &[u8], s: Seen) -> Look {
+fn look_copy(line: &[u8], s: &mut Seen) -> usize {
     if caseline::words(line) != 4 {
-        return flawed(s, 0, flaw::WORDS);
+        return flaw::WORDS;
     }
-    let bad = first_bad(line, 1, 4);
-    if bad < 4 {
-        return flawed(s, bad, flaw::NUMBER);
+    let bad = not_number(line, 1, 4);
+    if bad != 0 {
+        return bad;
     }
     let size = number(line, 3);
     if size == 0 {
-        return flawed(s, 3, flaw::EMPTY);
+        return 3 * FIELD + flaw::EMPTY;
     }
-    placed(s, number(line, 1), number(line, 2), size, size)
+    look_places(line, s, size, size)
 }
 
 fn is_width(n: usize) -> bool {
     (n == 1) | (n == 2) | (n == 4) | (n == 8)
 }
 
-fn look_widths(line: &[u8], s: Seen) -> Look {
+fn look_int(line: &[u8], s: &mut Seen) -> usize {
+    if caseline::words(line) != 7 {
+        return flaw::WORDS;
+    }
+    let bad = not_number(line, 1, 5);
+    if bad != 0 {
+        return bad;
+    }
+    let sign = letter(line, 5);
+    if (sign != b'u') & (sign != b's') {
+        return 5 * FIELD + flaw::SIGN;
+    }
+    let mark = letter(line, 6);
+    if (mark != b'0') & (mark != b'1') {
+        return 6 * FIELD + flaw::MARK;
+    }
     let size = number(line, 3);
     let wide = number(line, 4);
     if !(is_width(size) & is_width(wide) & (size != wide)) {
-        return flawed(s, 3, flaw::WIDTHS);
+        return 3 * FIELD + flaw::WIDTHS;
     }
-    if lent::same(caseline::word(line, 6), b"0") & (wide < size) {
-        return flawed(s, 4, flaw::NARROWS);
+    if (mark == b'0') & (wide < size) {
+        return 4 * FIELD + flaw::NARROWS;
     }
-    placed(s, number(line, 1), number(line, 2), size, wide)
+    look_places(line, s, size, wide)
 }
 
-fn look_int(line: &[u8], s: Seen) -> Look {
-    if caseline::words(line) != 7 {
-        return flawed(s, 0, flaw::WORDS);
-    }
-    let bad = first_bad(line, 1, 5);
-    if bad < 5 {
-        return flawed(s, bad, flaw::NUMBER);
-    }
-    if 1 < owl_words::which(b"u s", caseline::word(line, 5)) {
-        return flawed(s, 5, flaw::SIGN);
-    }
-    if 1 < owl_words::which(b"0 1", caseline::word(line, 6)) {
-        return flawed(s, 6, flaw::MARK);
-    }
-    look_widths(line, s)
-}
-
-fn look_step(line: &[u8], s: Seen) -> Look {
+fn look_step(line: &[u8], s: &mut Seen) -> usize {
     match owl_words::which(b"copy int", caseline::word(line, 0)) {
         0 => look_copy(line, s),
         1 => look_int(line, s),
-        _ => flawed(s, 0, flaw::STEP_WORD),
+        _ => flaw::STEP_WORD,
     }
 }
 
-pub fn on_line(line: &[u8], s: Seen) -> Look {
-    let number = s.line;
+// The line of this number: its flaw.
+pub fn look(line: &[u8], number: usize, s: &mut Seen) -> usize {
     match number {
         1 => look_plan(line, s),
         2 => look_body(line, s),

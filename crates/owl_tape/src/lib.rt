@@ -19,12 +19,6 @@ const NEWLINE: u8 = b'\n';
 // The longest line of the output.
 const LONGEST: usize = 2 * limits::MAX_BYTES + 3;
 
-// What a read leaves: so many bytes of a line that is not whole, or the end.
-enum Step {
-    Waiting(usize),
-    End,
-}
-
 // ---- one record
 
 // 'b' and the bytes behind the header.
@@ -41,7 +35,7 @@ fn say_body(target: &[u8], header: usize, size: usize) {
 // By the plan in the slot, as a record of its rtype.
 pub fn upgrade(slot: &Slot, source_header: usize, record: &[u8]) {
     let mut target = [0u8; limits::MAX_BYTES];
-    let header = lent::wide16(lent::u16_at(slot, HEADER_AT));
+    let header = lent::u16_at(slot, HEADER_AT) as usize;
     let ids = [0u16; 1];
     let answer = dispatch::upgrade(
         slot,
@@ -109,35 +103,21 @@ fn whole_lines(bytes: &[u8], slot: &Slot, source_header: usize, number: &mut usi
     at
 }
 
-// Reads once; the last line may lack its end.
-fn turn(
-    room: &mut Room,
-    waiting: usize,
-    slot: &Slot,
-    source_header: usize,
-    number: &mut usize,
-) -> Step {
-    let have = input::more(room, waiting);
-    if have == waiting {
-        let last = next_number(*number);
-        on_line(slot, source_header, lent::part(room, 0, have), last);
-        return Step::End;
-    }
-    let rest = whole_lines(lent::part(room, 0, have), slot, source_header, number);
-    let left = input::to_front(room, rest, have);
-    Step::Waiting(input::without_long(room, left))
-}
-
-// Nothing says that the input ends, so the turns are counted down from a number that no run uses up.
+// Nothing says that the input ends, so the turns are counted down from a number that no run uses up. Each reads once; the last line may lack
+// its end.
 fn turns(room: &mut Room, slot: &Slot, source_header: usize) {
     let mut number: usize = 0;
     let mut waiting = 0;
     let mut left = u64::MAX;
     while left > 0 {
-        match turn(room, waiting, slot, source_header, &mut number) {
-            Step::Waiting(n) => waiting = n,
-            Step::End => return,
+        let have = input::more(room, waiting);
+        let bytes = lent::part(room, 0, have);
+        if have == waiting {
+            return on_line(slot, source_header, bytes, next_number(number));
         }
+        let rest = whole_lines(bytes, slot, source_header, &mut number);
+        let kept = input::to_front(room, rest, have);
+        waiting = input::without_long(room, kept);
         left -= 1;
     }
 }

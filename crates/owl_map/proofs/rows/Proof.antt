@@ -5,10 +5,10 @@ use Rattle.owl_map.proofs.rows.Statement.{statement}
 use Rattle.owl_map.proofs.rows.Tie as tie
 
 abbrev Inv-loop : tie.InvT-loop
-Inv-loop slot n at₀ k₀ at k = k ≤ n
+Inv-loop slot cells₀ n end₀ k₀ cells end k = k ≤ n
 
 abbrev μ-loop : tie.MeasureT-loop
-μ-loop slot n at₀ k₀ at k = n - k
+μ-loop slot cells₀ n end₀ k₀ cells end k = n - k
 
 steps-requires : tie.Need-steps-requires Inv-loop μ-loop
 steps-requires c κs = search needs

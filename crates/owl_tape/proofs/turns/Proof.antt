@@ -12,17 +12,29 @@ abbrev μ-loop : tie.MeasureT-loop
 loop-holds : tie.Need-loop-holds Inv-loop μ-loop
 loop-holds c = search needs
 
-turn-requires : tie.Need-turn-requires Inv-loop μ-loop
-turn-requires c κs = search needs
+more-requires : tie.Need-more-requires Inv-loop μ-loop
+more-requires c κs = search needs
 
-enum-known-n : tie.Need-enum-known-n Inv-loop μ-loop
-enum-known-n c = search needs
+part-requires : tie.Need-part-requires Inv-loop μ-loop
+part-requires c κs = search needs
 
-enum-told : tie.Need-enum-told Inv-loop μ-loop
-enum-told c = search needs
+next-number-requires : tie.Need-next-number-requires Inv-loop μ-loop
+next-number-requires c κs = search needs
+
+on-line-requires : tie.Need-on-line-requires Inv-loop μ-loop
+on-line-requires c κs = search needs
 
 returns : tie.Need-returns Inv-loop μ-loop
 returns c = search needs
+
+whole-lines-requires : tie.Need-whole-lines-requires Inv-loop μ-loop
+whole-lines-requires c κs = search needs
+
+to-front-requires : tie.Need-to-front-requires Inv-loop μ-loop
+to-front-requires c κs = search needs
+
+without-long-requires : tie.Need-without-long-requires Inv-loop μ-loop
+without-long-requires c κs = search needs
 
 sub-left : tie.Need-sub-left Inv-loop μ-loop
 sub-left c = search needs
@@ -43,10 +55,14 @@ turns-spec =
     Inv-loop
     μ-loop
     loop-holds
-    turn-requires
-    enum-known-n
-    enum-told
+    more-requires
+    part-requires
+    next-number-requires
+    on-line-requires
     returns
+    whole-lines-requires
+    to-front-requires
+    without-long-requires
     sub-left
     loop-less
     loop-again

@@ -5,10 +5,10 @@ use Rattle.owl_map.proofs.strip.fill.Statement.{statement}
 use Rattle.owl_map.proofs.strip.fill.Tie as tie
 
 abbrev Inv-loop : tie.InvT-loop
-Inv-loop cells₀ from to letter at₀ cells at = Unit {0}
+Inv-loop cells₀ from to first rest letter₀ at₀ cells letter at = Unit {0}
 
 abbrev μ-loop : tie.MeasureT-loop
-μ-loop cells₀ from to letter at₀ cells at = to - at
+μ-loop cells₀ from to first rest letter₀ at₀ cells letter at = to - at
 
 loop-holds : tie.Need-loop-holds Inv-loop μ-loop
 loop-holds c = search needs
