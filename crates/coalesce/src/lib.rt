@@ -65,27 +65,13 @@ pub fn join(a: Step, b: Step, bases: Bases) -> Joining
     let first = a.op;
     let next = b.op;
     match first {
-        Op::Int {
-            src_offset: _,
-            dst_offset: _,
-            src_size: _,
-            dst_size: _,
-            signed: _,
-            has_undef_max: _,
-        } => Joining::Two,
+        Op::Int { .. } => Joining::Two,
         Op::Copy {
             src_offset,
             dst_offset,
             size,
         } => match next {
-            Op::Int {
-                src_offset: _,
-                dst_offset: _,
-                src_size: _,
-                dst_size: _,
-                signed: _,
-                has_undef_max: _,
-            } => Joining::Two,
+            Op::Int { .. } => Joining::Two,
             Op::Copy {
                 src_offset: from,
                 dst_offset: to,
