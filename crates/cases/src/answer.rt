@@ -40,19 +40,9 @@ pub const UNPLANNED: usize = 7;
 // No word: the bytes that the call has made are put.
 pub const BYTES: usize = 8;
 
-fn put_word(out: &mut Out, k: usize) -> usize {
-    let words = b"?\tok\tnone\tsame\tdifferent\tcompiled\tdynamic\tunplanned";
-    put::text(out, 0, caseline::word(words, k))
-}
-
 fn put_marked(out: &mut Out, mark: u8, n: usize) -> usize {
     let end = put::byte(out, 0, mark);
     put::number(out, end, n)
-}
-
-fn put_pair(out: &mut Out, a: usize, b: usize) -> usize {
-    let end = put::number(out, 0, a);
-    put::next(out, end, b)
 }
 
 // Numbers, a blank behind each.
@@ -65,11 +55,6 @@ fn put_numbers(out: &mut Out, numbers: &[usize]) -> usize {
         i += 1;
     }
     end
-}
-
-fn put_counted(out: &mut Out, sum: u64, n: usize) -> usize {
-    let end = put::hex(out, 0, sum);
-    put::next(out, end, n)
 }
 
 fn put_field(out: &mut Out, f: FieldDef) -> usize {
@@ -86,15 +71,6 @@ fn put_field(out: &mut Out, f: FieldDef) -> usize {
     put::next(out, scale, f.reserved)
 }
 
-// How many fields there are, the cursor, and the base, once it is noted.
-fn put_state(out: &mut Out, c: FieldCursor) -> usize {
-    let end = put_numbers(out, &[c.count, c.cursor]);
-    if c.based {
-        return put::number(out, end, c.base);
-    }
-    put::byte(out, end, b'-')
-}
-
 // Bytes behind a blank.
 pub fn put_bytes(out: &mut Out, end: usize, bytes: &[u8]) -> usize {
     let blank = put::byte(out, end, b' ');
@@ -104,13 +80,29 @@ pub fn put_bytes(out: &mut Out, end: usize, bytes: &[u8]) -> usize {
 // Puts the answer at the start of out, and tells where it ends.
 pub fn put(out: &mut Out, a: Answer) -> usize {
     match a {
-        Answer::Word(k) => put_word(out, k),
+        Answer::Word(k) => {
+            let words = b"?\tok\tnone\tsame\tdifferent\tcompiled\tdynamic\tunplanned";
+            put::text(out, 0, caseline::word(words, k))
+        }
         Answer::Refused(r) => put_marked(out, b'r', refusal::number(r) as usize),
         Answer::Size(n) => put_marked(out, b'=', n),
-        Answer::Pair(x, y) => put_pair(out, x, y),
+        Answer::Pair(x, y) => {
+            let end = put::number(out, 0, x);
+            put::next(out, end, y)
+        }
         Answer::Sum(sum) => put::hex(out, 0, sum),
-        Answer::Counted(sum, n) => put_counted(out, sum, n),
+        Answer::Counted(sum, n) => {
+            let end = put::hex(out, 0, sum);
+            put::next(out, end, n)
+        }
         Answer::Field(f) => put_field(out, f),
-        Answer::State(c) => put_state(out, c),
+        // How many fields there are, the cursor, and the base, once it is noted.
+        Answer::State(c) => {
+            let end = put_numbers(out, &[c.count, c.cursor]);
+            if c.based {
+                return put::number(out, end, c.base);
+            }
+            put::byte(out, end, b'-')
+        }
     }
 }

@@ -17,6 +17,7 @@ use crate::texts;
 use crate::upgrades;
 use crate::verdicts;
 use crate::words;
+use builders::Placed;
 
 // Words that change nothing.
 fn read(k: usize, kept: &Kept, plans: &[u8]) -> Answer {
@@ -40,7 +41,10 @@ fn read(k: usize, kept: &Kept, plans: &[u8]) -> Answer {
 
 pub fn asked(k: usize, kept: &Kept, made: &mut Made, slots: &mut Slots) -> Answer {
     if k < words::PLAN {
-        return cursor::placed(cursor::call(k, kept, made, slots));
+        return match cursor::call(k, kept, made, slots) {
+            Placed::At(c) => Answer::State(c),
+            Placed::Refused(r) => Answer::Refused(r),
+        };
     }
     if k < words::APPLY {
         return plans::asked(k, kept, made);

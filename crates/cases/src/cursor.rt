@@ -1,6 +1,5 @@
 // The words of the field cursor.
 use crate::answer;
-use crate::answer::Answer;
 use crate::answer::Out;
 use crate::given;
 use crate::kept;
@@ -13,15 +12,7 @@ use builders::Placed;
 use builders::Times;
 use tuppenceowl::building;
 
-// How many stand in an array is the size of the field that the line has.
-fn times(k: usize, n: u16) -> Times {
-    if k == words::NESTED {
-        return Times::One;
-    }
-    Times::Array(n)
-}
-
-// A field, of whose 16 bytes each call takes what it needs.
+// A field, of whose 16 bytes each call takes what it needs; the size tells how many stand in an array.
 fn place(
     k: usize,
     kept: &Kept,
@@ -43,15 +34,14 @@ fn place(
         words::LIKE => building::like(cat, rows, slots, c, def, index, name),
         _ => {
             let l = kept::layout(kept);
-            building::nested(cat, l, rows, slots, c, id, index, times(k, size), name)
+            let times = if k == words::NESTED {
+                Times::One
+            } else {
+                Times::Array(size)
+            };
+            building::nested(cat, l, rows, slots, c, id, index, times, name)
         }
     }
-}
-
-fn finish(kept: &Kept, cat: &[u8], c: FieldCursor, rows: &mut Made, slots: &mut Slots) -> Placed {
-    let mut ids = [0u16; 64];
-    let n = caseline::ids(given::bytes(kept, 1), &mut ids);
-    building::finish(cat, rows, slots, c, &ids[0..n])
 }
 
 pub fn call(k: usize, kept: &Kept, rows: &mut Made, slots: &mut Slots) -> Placed {
@@ -60,15 +50,12 @@ pub fn call(k: usize, kept: &Kept, rows: &mut Made, slots: &mut Slots) -> Placed
     match k {
         words::AT => building::at(cat, rows, slots, c, given::number(kept, 1)),
         words::FINISH_BASE => building::finish_base(cat, rows, slots, c),
-        words::FINISH => finish(kept, cat, c, rows, slots),
+        words::FINISH => {
+            let mut ids = [0u16; 64];
+            let n = caseline::ids(given::bytes(kept, 1), &mut ids);
+            building::finish(cat, rows, slots, c, &ids[0..n])
+        }
         _ => place(k, kept, cat, c, rows, slots),
-    }
-}
-
-pub fn placed(p: Placed) -> Answer {
-    match p {
-        Placed::At(c) => Answer::State(c),
-        Placed::Refused(r) => Answer::Refused(r),
     }
 }
 

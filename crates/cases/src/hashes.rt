@@ -24,15 +24,6 @@ fn hash(k: usize, s: Summed) -> Answer {
     }
 }
 
-fn booted(b: Booted) -> Answer {
-    match b {
-        Booted::Same => Answer::Word(answer::SAME),
-        Booted::Different => Answer::Word(answer::DIFFERENT),
-        Booted::NoRecord => Answer::Word(answer::NONE),
-        Booted::Refused(r) => Answer::Refused(r),
-    }
-}
-
 pub fn asked(k: usize, kept: &Kept, plans: &[u8]) -> Answer {
     if k == words::SUM {
         return Answer::Sum(hashing::sum(given::bytes(kept, 1)));
@@ -47,6 +38,11 @@ pub fn asked(k: usize, kept: &Kept, plans: &[u8]) -> Answer {
     match k {
         words::HASH => hash(k, hashing::layout_hash(cat, l, first)),
         words::VISITS => hash(k, hashing::layout_hash_within(cat, l, first, second)),
-        _ => booted(hashing::boot_check(cat, l, first)),
+        _ => match hashing::boot_check(cat, l, first) {
+            Booted::Same => Answer::Word(answer::SAME),
+            Booted::Different => Answer::Word(answer::DIFFERENT),
+            Booted::NoRecord => Answer::Word(answer::NONE),
+            Booted::Refused(r) => Answer::Refused(r),
+        },
     }
 }

@@ -88,12 +88,6 @@ pub fn keep_cursor(kept: &mut Kept, a: Answer) {
     }
 }
 
-fn keep_line(kept: &mut Kept, line: &[u8]) {
-    caseline::decode(line, kept);
-    lent::words::store_eight(kept, LINE, line.len() as u64);
-    given::copied(kept, LINE + 8, line);
-}
-
 fn keep_hex(kept: &mut [u8], at: usize, text: &[u8])
     requires { ⌜ (230464 ≤ length (now kept)) × (at ≤ 99384) ⌝ }
 {
@@ -102,21 +96,24 @@ fn keep_hex(kept: &mut [u8], at: usize, text: &[u8])
     }
 }
 
-fn begun(holder: &[u8]) -> FieldCursor {
-    if lent::byte_at(holder, 0) == b'r' {
-        return building::empty(Holder::Record);
-    }
-    building::empty(Holder::Struct)
-}
-
 // What a line keeps before the call.
 pub fn keep(k: usize, line: &[u8], kept: &mut Kept) {
-    keep_line(kept, line);
+    caseline::decode(line, kept);
+    lent::words::store_eight(kept, LINE, line.len() as u64);
+    given::copied(kept, LINE + 8, line);
     let first = caseline::word(line, 1);
     match k {
         words::CATALOGUE => keep_hex(kept, CATALOGUE, first),
         words::LAYOUT => keep_hex(kept, LAYOUT, first),
-        words::BEGIN => store(kept, begun(first)),
+        words::BEGIN => {
+            let record = lent::byte_at(first, 0) == b'r';
+            let holder = if record {
+                Holder::Record
+            } else {
+                Holder::Struct
+            };
+            store(kept, building::empty(holder));
+        }
         _ => {}
     }
 }

@@ -10,36 +10,6 @@ use tuppenceowl::Found;
 use tuppenceowl::Sized;
 use tuppenceowl::Windowed;
 
-fn admitted(a: Admitted) -> Answer {
-    match a {
-        Admitted::Fine => Answer::Word(answer::FINE),
-        Admitted::Refused(r) => Answer::Refused(r),
-    }
-}
-
-fn size(kept: &Kept) -> Answer {
-    match tuppenceowl::record_size(
-        kept::catalogue(kept),
-        kept::layout(kept),
-        given::number(kept, 1),
-    ) {
-        Sized::Bytes(n) => Answer::Size(n),
-        Sized::NoRecord => Answer::Word(answer::NONE),
-        Sized::Refused(r) => Answer::Refused(r),
-    }
-}
-
-fn window(kept: &Kept) -> Answer {
-    match tuppenceowl::window(
-        given::bytes(kept, 1),
-        given::number(kept, 2),
-        given::number(kept, 3),
-    ) {
-        Windowed::Within(start, end) => Answer::Pair(start, end),
-        Windowed::Past => Answer::Word(answer::NONE),
-    }
-}
-
 pub fn found(f: Found) -> Answer {
     match f {
         Found::Field(def) => Answer::Field(def),
@@ -49,11 +19,28 @@ pub fn found(f: Found) -> Answer {
 }
 
 pub fn asked(k: usize, kept: &Kept) -> Answer {
+    let cat = kept::catalogue(kept);
+    let l = kept::layout(kept);
+    let bytes = given::bytes(kept, 1);
+    let second = given::number(kept, 2);
     match k {
-        words::CATALOGUE => admitted(tuppenceowl::check_catalogue(kept::catalogue(kept))),
-        words::LAYOUT => admitted(tuppenceowl::admit(kept::catalogue(kept), kept::layout(kept))),
-        words::SIZE => size(kept),
-        words::WINDOW => window(kept),
-        _ => found(tuppenceowl::field_of(given::bytes(kept, 1), given::number(kept, 2))),
+        words::CATALOGUE => match tuppenceowl::check_catalogue(cat) {
+            Admitted::Fine => Answer::Word(answer::FINE),
+            Admitted::Refused(r) => Answer::Refused(r),
+        },
+        words::LAYOUT => match tuppenceowl::admit(cat, l) {
+            Admitted::Fine => Answer::Word(answer::FINE),
+            Admitted::Refused(r) => Answer::Refused(r),
+        },
+        words::SIZE => match tuppenceowl::record_size(cat, l, given::number(kept, 1)) {
+            Sized::Bytes(n) => Answer::Size(n),
+            Sized::NoRecord => Answer::Word(answer::NONE),
+            Sized::Refused(r) => Answer::Refused(r),
+        },
+        words::WINDOW => match tuppenceowl::window(bytes, second, given::number(kept, 3)) {
+            Windowed::Within(start, end) => Answer::Pair(start, end),
+            Windowed::Past => Answer::Word(answer::NONE),
+        },
+        _ => found(tuppenceowl::field_of(bytes, second)),
     }
 }

@@ -14,24 +14,7 @@ use tuppenceowl::hashing;
 use tuppenceowl::planning;
 use tuppenceowl::planning::Planned;
 
-fn planned(p: Planned) -> Answer {
-    match p {
-        Planned::Made => Answer::Word(answer::BYTES),
-        Planned::NoRecord => Answer::Word(answer::NONE),
-        Planned::Refused(r) => Answer::Refused(r),
-    }
-}
-
-fn put_in(made: &mut [u8], at: usize, s: &[u8]) -> Answer {
-    if at <= kept::PLANS_SIZE {
-        if given::copied(made, kept::ROWS_SIZE + at, s) {
-            return Answer::Word(answer::FINE);
-        }
-    }
-    Answer::Word(answer::MALFORMED)
-}
-
-fn plan(kept: &Kept, room: &mut [u8]) -> Planned {
+fn plan(kept: &Kept, room: &mut [u8]) -> Answer {
     let cat = kept::catalogue(kept);
     let l = kept::layout(kept);
     let k = given::number(kept, 1);
@@ -40,14 +23,24 @@ fn plan(kept: &Kept, room: &mut [u8]) -> Planned {
     let body = given::bytes(kept, 4);
     let marks = given::bytes(kept, 5);
     let target = given::bytes(kept, 8);
-    planning::plan(cat, l, k, target, to, header, body, marks, room)
+    match planning::plan(cat, l, k, target, to, header, body, marks, room) {
+        Planned::Made => Answer::Word(answer::BYTES),
+        Planned::NoRecord => Answer::Word(answer::NONE),
+        Planned::Refused(r) => Answer::Refused(r),
+    }
 }
 
 pub fn asked(k: usize, kept: &Kept, made: &mut [u8]) -> Answer
     requires { ⌜ length (now made) ≡ 26688 ⌝ }
 {
     if k == words::PUT {
-        return put_in(made, given::number(kept, 1), given::bytes(kept, 2));
+        let at = given::number(kept, 1);
+        if at <= kept::PLANS_SIZE {
+            if given::copied(made, kept::ROWS_SIZE + at, given::bytes(kept, 2)) {
+                return Answer::Word(answer::FINE);
+            }
+        }
+        return Answer::Word(answer::MALFORMED);
     }
     let at = given::number(kept, 6);
     let room = given::number(kept, 7);
@@ -58,11 +51,17 @@ pub fn asked(k: usize, kept: &Kept, made: &mut [u8]) -> Answer
         return Answer::Word(answer::MALFORMED);
     }
     let from = kept::ROWS_SIZE + at;
-    planned(plan(kept, &mut made[from..from + room]))
+    plan(kept, &mut made[from..from + room])
 }
 
-// The numbers and the steps, the body, and the sum of all bytes that were lent.
-fn put_slot(out: &mut Out, slot: &[u8]) -> usize {
+// The plan, where one is made and nothing else is put: the numbers and the steps, the body, and the sum of all bytes that
+// were lent.
+pub fn put_plan(out: &mut Out, end: usize, kept: &Kept, made: &Made) -> usize {
+    if end != 0 {
+        return end;
+    }
+    let plans = lent::part(made, kept::ROWS_SIZE, kept::PLANS_SIZE);
+    let slot = lent::part(plans, given::number(kept, 6), given::number(kept, 7));
     let steps = lent::u16_at(slot, 12) as usize;
     let header = lent::u16_at(slot, 6) as usize;
     let size = lent::u16_at(slot, 10) as usize;
@@ -71,16 +70,4 @@ fn put_slot(out: &mut Out, slot: &[u8]) -> usize {
     let whole = answer::put_bytes(out, front, lent::part(slot, 2064, body));
     let next = put::byte(out, whole, b' ');
     put::hex(out, next, hashing::sum(slot))
-}
-
-// The plan, where one is made and nothing else is put.
-pub fn put_plan(out: &mut Out, end: usize, kept: &Kept, made: &Made) -> usize {
-    if end != 0 {
-        return end;
-    }
-    let plans = lent::part(made, kept::ROWS_SIZE, kept::PLANS_SIZE);
-    put_slot(
-        out,
-        lent::part(plans, given::number(kept, 6), given::number(kept, 7)),
-    )
 }

@@ -15,18 +15,9 @@ const MOST_ROOM: usize = 16384;
 
 type Room = [u8; MOST_ROOM];
 
-fn written(w: Written, text: &Room, n: usize) -> Answer {
-    match w {
-        Written::Length(length) => Answer::Counted(hashing::sum(lent::part(text, 0, n)), length),
-        Written::Refused(r) => Answer::Refused(r),
-    }
-}
-
-fn read(r: ReadPlan, plan: &Room, n: usize) -> Answer {
-    match r {
-        ReadPlan::Read => Answer::Counted(hashing::sum(lent::part(plan, 0, n)), slot::SIZE),
-        ReadPlan::Refused(why) => Answer::Refused(why),
-    }
+// The sum of the bytes that were lent.
+fn sum(room: &Room, n: usize) -> u64 {
+    hashing::sum(lent::part(room, 0, n))
 }
 
 // A slot: zeros, with what is given for its head and steps, and for its body.
@@ -39,11 +30,11 @@ pub fn write_plan(kept: &Kept) -> Answer {
     if MOST_ROOM < room {
         return Answer::Word(answer::MALFORMED);
     }
-    let w = texting::write_plan(
-        lent::part(&plan, 0, given::number(kept, 2)),
-        &mut text[0..room],
-    );
-    written(w, &text, room)
+    let found = lent::part(&plan, 0, given::number(kept, 2));
+    match texting::write_plan(found, &mut text[0..room]) {
+        Written::Length(n) => Answer::Counted(sum(&text, room), n),
+        Written::Refused(r) => Answer::Refused(r),
+    }
 }
 
 pub fn read_plan(kept: &Kept) -> Answer {
@@ -52,6 +43,8 @@ pub fn read_plan(kept: &Kept) -> Answer {
     if MOST_ROOM < room {
         return Answer::Word(answer::MALFORMED);
     }
-    let r = texting::read_plan(given::bytes(kept, 2), &mut plan[0..room]);
-    read(r, &plan, room)
+    match texting::read_plan(given::bytes(kept, 2), &mut plan[0..room]) {
+        ReadPlan::Read => Answer::Counted(sum(&plan, room), slot::SIZE),
+        ReadPlan::Refused(r) => Answer::Refused(r),
+    }
 }

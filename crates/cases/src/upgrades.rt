@@ -12,19 +12,11 @@ use crate::words;
 use dispatch::Upgraded;
 use tuppenceowl::upgrading;
 
-fn done(u: Upgraded) -> Answer {
-    match u {
-        Upgraded::Done(rtype, size) => Answer::Pair(rtype as usize, size),
-        Upgraded::Refused(r) => Answer::Refused(r),
+fn upgraded(k: usize, kept: &Kept, plans: &[u8], target: &mut [u8]) -> Upgraded {
+    if k == words::APPLY {
+        let slot = lent::part(plans, given::number(kept, 1), given::number(kept, 2));
+        return upgrading::apply(slot, given::bytes(kept, 3), given::number(kept, 4), target);
     }
-}
-
-fn apply(kept: &Kept, plans: &[u8], target: &mut [u8]) -> Upgraded {
-    let slot = lent::part(plans, given::number(kept, 1), given::number(kept, 2));
-    upgrading::apply(slot, given::bytes(kept, 3), given::number(kept, 4), target)
-}
-
-fn upgrade(kept: &Kept, plans: &[u8], target: &mut [u8]) -> Upgraded {
     let slots = lent::part(plans, 0, given::number(kept, 1));
     let mut ids = [0u16; 64];
     let n = caseline::ids(given::bytes(kept, 2), &mut ids);
@@ -34,13 +26,6 @@ fn upgrade(kept: &Kept, plans: &[u8], target: &mut [u8]) -> Upgraded {
     let record = given::bytes(kept, 6);
     let stated = given::number(kept, 7);
     upgrading::upgrade(slots, &ids[0..n], rtype, from, to, record, stated, target)
-}
-
-fn upgraded(k: usize, kept: &Kept, plans: &[u8], target: &mut [u8]) -> Upgraded {
-    if k == words::APPLY {
-        return apply(kept, plans, target);
-    }
-    upgrade(kept, plans, target)
 }
 
 // The last word of the line.
@@ -58,7 +43,10 @@ pub fn asked(k: usize, kept: &Kept, plans: &[u8], slots: &mut [u8]) -> Answer
     }
     let end = kept::NAMES_SIZE + s.len();
     lent::store::copy(s, 0, slots, kept::NAMES_SIZE, s.len());
-    done(upgraded(k, kept, plans, &mut slots[kept::NAMES_SIZE..end]))
+    match upgraded(k, kept, plans, &mut slots[kept::NAMES_SIZE..end]) {
+        Upgraded::Done(rtype, size) => Answer::Pair(rtype as usize, size),
+        Upgraded::Refused(r) => Answer::Refused(r),
+    }
 }
 
 // The target behind the answer.

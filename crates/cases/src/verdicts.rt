@@ -23,22 +23,18 @@ fn judged(j: Judged) -> Answer {
     }
 }
 
-fn selected(s: Selected) -> Answer {
-    match s {
-        Selected::Record(k) => Answer::Size(k),
-        Selected::Unplanned => Answer::Word(answer::UNPLANNED),
-        Selected::NoRecord => Answer::Word(answer::NONE),
-        Selected::Refused(r) => Answer::Refused(r),
-    }
-}
-
 // No schema is wanted where a dash stands.
 fn select(kept: &Kept, cat: &[u8], l: &[u8]) -> Answer {
     let record = given::number(kept, 1);
     let wanted = lent::byte_at(given::word(kept, 2), 0) != b'-';
     let schema = given::short(kept, 2);
     let target = given::bytes(kept, 3);
-    selected(planning::select(cat, l, record, target, wanted, schema))
+    match planning::select(cat, l, record, target, wanted, schema) {
+        Selected::Record(k) => Answer::Size(k),
+        Selected::Unplanned => Answer::Word(answer::UNPLANNED),
+        Selected::NoRecord => Answer::Word(answer::NONE),
+        Selected::Refused(r) => Answer::Refused(r),
+    }
 }
 
 pub fn asked(k: usize, kept: &Kept) -> Answer {
