@@ -29,8 +29,11 @@ fn say_form(line: &[u8]) {
     owl_say::complain(written);
 }
 
-// The messages in the order of layouts::fault, parted by tabs.
-fn say_own(k: usize) {
+// The messages stand in the order of layouts::fault, parted by tabs.
+fn say_why(line: &[u8], why: usize) {
+    if why < fault::NO_ITEM {
+        return refusals::numbered(STDERR_FILENO, why);
+    }
     let message = caseline::word(
         b"no item; expected source target struct field at base header wanted plan catalogue\n\
         \ta word is missing; expected \
@@ -52,27 +55,12 @@ fn say_own(k: usize) {
         \texpected as many bytes in hex as the field has\n\
         \texpected 262 bytes in hex\n\
         \texpected before the first 'source', 'target' or 'struct'\n",
-        k,
+        why - fault::NO_ITEM,
     );
     owl_say::complain(message);
-}
-
-fn say_why(line: &[u8], why: usize) {
-    if why < fault::NO_ITEM {
-        return refusals::numbered(STDERR_FILENO, why);
-    }
-    say_own(why - fault::NO_ITEM);
     if (why == fault::TOO_FEW) | (why == fault::TOO_MANY) {
         say_form(line);
     }
-}
-
-fn line_from(text: &[u8], from: usize) -> &[u8] {
-    if from < text.len() {
-        let end = caseline::find(text, from, NEWLINE);
-        return &text[from..end];
-    }
-    lent::part(text, 0, 0)
 }
 
 // The file and the line.
@@ -102,7 +90,9 @@ fn quote(line: &[u8], k: usize) {
 
 pub fn say(text: &[u8], s: State) {
     place(s.line);
-    let line = owl_words::content(line_from(text, s.from));
+    let from = lent::lesser(s.from, text.len());
+    let end = caseline::find(text, from, NEWLINE);
+    let line = owl_words::content(&text[from..end]);
     quote(line, s.word);
     say_why(line, s.why);
 }

@@ -27,11 +27,11 @@ const PLAN: usize = 3;
 
 const FIELD: usize = 4;
 
-const AT: usize = 5;
+pub const AT: usize = 5;
 
 const BASE: usize = 6;
 
-const HEADER: usize = 7;
+pub const HEADER: usize = 7;
 
 const WANTED: usize = 8;
 
@@ -87,16 +87,30 @@ fn take_inner(item: usize, line: &[u8], room: &mut Room, s: State) -> State {
     }
     match item {
         FIELD => fields::take(line, room, s),
-        AT => items::at(line, room, s),
-        BASE => items::base(line, room, s),
-        HEADER => items::header(line, s),
-        WANTED => items::wanted(line, s),
+        BASE => calls::base(line, room, s),
+        AT | HEADER | WANTED => items::numbered(item, line, room, s),
         CATALOGUE => items::catalogue(line, room, s),
-        _ => items::none(line, s),
+        // A line that has no item is blank.
+        _ => {
+            if owl_words::words(line) == 0 {
+                return s;
+            }
+            state::bad(s, 0, fault::NO_ITEM)
+        }
     }
 }
 
-fn take_outer(item: usize, line: &[u8], room: &mut Room, s: State) -> State {
+// The line that begins at `from`.
+fn take(whole_line: &[u8], from: usize, room: &mut Room, before: State) -> State {
+    let line = owl_words::content(whole_line);
+    let item = item_of(line);
+    let mut here = before;
+    here.line = lent::lesser(before.line, MOST_LINES) + 1;
+    here.from = from;
+    if PLAN < item {
+        return take_inner(item, line, room, here);
+    }
+    let s = whole::close(room, here);
     if s.why != fault::FINE {
         return s;
     }
@@ -108,23 +122,6 @@ fn take_outer(item: usize, line: &[u8], room: &mut Room, s: State) -> State {
     }
 }
 
-fn take(whole_line: &[u8], room: &mut Room, s: State) -> State {
-    let line = owl_words::content(whole_line);
-    let item = item_of(line);
-    if PLAN < item {
-        return take_inner(item, line, room, s);
-    }
-    let closed = whole::close(room, s);
-    take_outer(item, line, room, closed)
-}
-
-fn at_line(s: State, from: usize) -> State {
-    let mut next = s;
-    next.line = lent::lesser(s.line, MOST_LINES) + 1;
-    next.from = from;
-    next
-}
-
 // ---- the text
 
 // The room is zero before.
@@ -134,7 +131,7 @@ pub fn read(text: &[u8], room: &mut Room) -> State {
     while at < text.len() {
         let end = caseline::find(text, at, NEWLINE);
         let next_at = end + 1;
-        s = take(&text[at..end], room, at_line(s, at));
+        s = take(&text[at..end], at, room, s);
         if s.why != fault::FINE {
             return s;
         }

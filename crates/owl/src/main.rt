@@ -10,13 +10,6 @@ use owl_say::files;
 use owl_say::files::Loaded;
 use owl_say::files::Text;
 
-// Which command the first word is.
-fn command() -> usize {
-    let mut word = io::buffer();
-    let n = os::arg(1, &mut word);
-    owl_words::which(b"help plan hash upgrade check map", &word[..n])
-}
-
 fn make(text: &Text, n: usize, hash: bool) {
     let all = lent::part(text, 0, n);
     let mut slot = [0u8; slot::SIZE];
@@ -36,23 +29,25 @@ fn on_layouts(hash: bool) {
     }
 }
 
-fn unknown() {
-    owl_say::complain(b"owl: '");
-    files::complain_arg(1);
-    owl_say::complain(b"' is no command; expected plan, hash, upgrade, check, map or help\n");
-}
-
 fn main() {
     if os::arg_count() < 2 {
         return demo::show();
     }
-    match command() {
+    let mut word = io::buffer();
+    let n = os::arg(1, &mut word);
+    match owl_words::which(b"help plan hash upgrade check map", &word[..n]) {
         0 => help::show(),
         1 => on_layouts(false),
         2 => on_layouts(true),
         3 => plans::upgrade(),
         4 => plans::check(),
         5 => plans::map(),
-        _ => unknown(),
+        _ => {
+            owl_say::complain(b"owl: '");
+            files::complain_arg(1);
+            owl_say::complain(
+                b"' is no command; expected plan, hash, upgrade, check, map or help\n",
+            );
+        }
     }
 }

@@ -27,12 +27,9 @@ pub type Slot = [u8; slot::SIZE];
 
 const RECORDS: u8 = limits::MAX_RECORDS as u8;
 
-fn source(room: &Room, s: State) -> &[u8] {
-    lent::part(room::block(room, state::SOURCE), 0, s.source_end)
-}
-
-fn target(room: &Room, s: State) -> &[u8] {
-    lent::part(room::block(room, state::TARGET), 0, s.target_end)
+// A side's layout, which ends at `end`.
+fn layout(room: &Room, side: u8, end: usize) -> &[u8] {
+    lent::part(room::block(room, side), 0, end)
 }
 
 // ---- which records
@@ -55,12 +52,6 @@ fn refused(room: &Room, s: State, to: u8, r: Refusal) {
     refusals::refused(STDERR_FILENO, r);
 }
 
-fn no_target(room: &Room, s: State) {
-    faults::of_file(b": no target record is selected for the source's '");
-    owl_say::complain(pack::name_of(Holder::Record, source(room, s), s.source));
-    owl_say::complain(b"';\n  expected one of its rtype, or a line 'plan SOURCE TARGET'\n");
-}
-
 // The target record that the text names, or the one that is selected.
 fn chosen(room: &Room, s: State) -> Selected {
     if s.chosen {
@@ -68,9 +59,9 @@ fn chosen(room: &Room, s: State) -> Selected {
     }
     planning::select(
         room::catalogue(room),
-        source(room, s),
+        layout(room, state::SOURCE, s.source_end),
         lent::wide8(s.source),
-        target(room, s),
+        layout(room, state::TARGET, s.target_end),
         s.wanted,
         s.schema,
     )
@@ -78,45 +69,32 @@ fn chosen(room: &Room, s: State) -> Selected {
 
 // ---- the plan
 
-// The default bytes behind the header, of a target record of this size.
-fn body(room: &Room, to: u8, header: usize, size: usize) -> &[u8] {
-    let from = room::BODIES_AT + limits::MAX_BYTES * lent::wide8(to);
-    if header <= size {
-        if size <= limits::MAX_BYTES {
-            return lent::part(room, from + header, size - header);
+// The default bytes behind the header of a target record.
+fn body(room: &Room, s: State, to: u8) -> &[u8] {
+    let cat = room::catalogue(room);
+    let into = layout(room, state::TARGET, s.target_end);
+    let number = lent::wide8(to);
+    let from = room::BODIES_AT + limits::MAX_BYTES * number;
+    if let Sized::Bytes(size) = tuppenceowl::record_size(cat, into, number) {
+        if s.header <= size {
+            if size <= limits::MAX_BYTES {
+                return lent::part(room, from + s.header, size - s.header);
+            }
         }
     }
     lent::part(room, 0, 0)
 }
 
-fn marks(room: &Room, to: u8) -> &[u8] {
-    let from = room::MARKS_AT + limits::MAX_FIELDS * lent::wide8(to);
-    lent::part(room, from, limits::MAX_FIELDS)
-}
-
-fn planned(room: &Room, s: State, to: u8, slot: &mut Slot) -> Planned {
-    let cat = room::catalogue(room);
-    let into = target(room, s);
-    let number = lent::wide8(to);
-    let size = match tuppenceowl::record_size(cat, into, number) {
-        Sized::Bytes(n) => n,
-        _ => 0,
-    };
-    planning::plan(
-        cat,
-        source(room, s),
-        lent::wide8(s.source),
-        into,
-        number,
-        s.header,
-        body(room, to, s.header, size),
-        marks(room, to),
-        slot,
-    )
-}
-
 fn plan_to(room: &Room, s: State, to: u8, slot: &mut Slot) -> bool {
-    match planned(room, s, to, slot) {
+    let cat = room::catalogue(room);
+    let l = layout(room, state::SOURCE, s.source_end);
+    let into = layout(room, state::TARGET, s.target_end);
+    let k = lent::wide8(s.source);
+    let number = lent::wide8(to);
+    let body = body(room, s, to);
+    let marks_at = room::MARKS_AT + limits::MAX_FIELDS * number;
+    let marks = lent::part(room, marks_at, limits::MAX_FIELDS);
+    match planning::plan(cat, l, k, into, number, s.header, body, marks, slot) {
         Planned::Made => return true,
         Planned::NoRecord => faults::of_file(
             b": a record is missing; expected a source and a target\n",
@@ -130,7 +108,12 @@ fn plan_to(room: &Room, s: State, to: u8, slot: &mut Slot) -> bool {
 fn plan(room: &Room, s: State, slot: &mut Slot) -> bool {
     match chosen(room, s) {
         Selected::Record(to) => return plan_to(room, s, (to % 256) as u8, slot),
-        Selected::Unplanned => no_target(room, s),
+        Selected::Unplanned => {
+            let source = layout(room, state::SOURCE, s.source_end);
+            faults::of_file(b": no target record is selected for the source's '");
+            owl_say::complain(pack::name_of(Holder::Record, source, s.source));
+            owl_say::complain(b"';\n  expected one of its rtype, or a line 'plan SOURCE TARGET'\n");
+        }
         Selected::NoRecord => faults::of_file(
             b": no source record; expected a line 'source NAME RTYPE SCHEMA'\n",
         ),
@@ -149,12 +132,6 @@ pub fn say_plan(slot: &Slot) {
 
 // ---- the hashes
 
-fn say_hash(fp: u64, visits: usize) {
-    owl_say::out(b"hash ");
-    io::print_hex(STDOUT_FILENO, fp, 16);
-    form::say(STDOUT_FILENO, b" visits #\n", form::one(visits));
-}
-
 fn say_record(side: &[u8], l: &[u8], k: u8) {
     owl_say::out(side);
     owl_say::out(pack::name_of(Holder::Record, l, k));
@@ -167,7 +144,9 @@ fn hashed(side: &[u8], cat: &[u8], l: &[u8], k: u8) -> bool {
     match hashing::layout_hash(cat, l, lent::wide8(k)) {
         Summed::Hash(fp, visits) => {
             say_record(side, l, k);
-            say_hash(fp, visits);
+            owl_say::out(b"hash ");
+            io::print_hex(STDOUT_FILENO, fp, 16);
+            form::say(STDOUT_FILENO, b" visits #\n", form::one(visits));
         }
         Summed::NoRecord => return false,
         Summed::Refused(r) => {
@@ -207,6 +186,8 @@ pub fn say_hashes(text: &[u8]) {
     if s.why != fault::FINE {
         return faults::say(text, s);
     }
-    hashes(b"source ", room::catalogue(&room), source(&room, s));
-    hashes(b"target ", room::catalogue(&room), target(&room, s));
+    let source = layout(&room, state::SOURCE, s.source_end);
+    let target = layout(&room, state::TARGET, s.target_end);
+    hashes(b"source ", room::catalogue(&room), source);
+    hashes(b"target ", room::catalogue(&room), target);
 }

@@ -1,4 +1,5 @@
 // The calls of the field cursor, on what is open.
+use crate::layouts::fault;
 use crate::layouts::state;
 use crate::layouts::state::State;
 use builders::Placed;
@@ -32,7 +33,11 @@ pub fn at(room: &Room, offset: usize, s: State) -> State {
     answered(s, 1, answer, rows, names)
 }
 
-pub fn base(room: &Room, s: State) -> State {
+// The line has no other word.
+pub fn base(line: &[u8], room: &Room, s: State) -> State {
+    if owl_words::words(line) != 1 {
+        return state::bad(s, 1, fault::TOO_MANY);
+    }
     let cat = room::catalogue(room);
     let mut rows = s.rows;
     let mut names = s.names;

@@ -30,16 +30,7 @@ fn body_at(s: State) -> usize {
     room::BODIES_AT + limits::MAX_BYTES * lent::wide8(s.targets) + in_row(s, 2)
 }
 
-// The largest value of an integer of this kind.
-fn put_largest(room: &mut Room, at: usize, kind: u8) {
-    let ones = b"\xff\xff\xff\xff\xff\xff\xff\xff";
-    let end = put::text(room, at, lent::part(ones, 0, (kind % 16) as usize));
-    if kind / 16 == types::SIGNED {
-        put::byte(room, lent::greater(end, 1) - 1, 127);
-    }
-}
-
-// Only an integer has a mark.
+// Only an integer has a mark. Its default is the largest value of its kind.
 pub fn mark(room: &mut Room, kind: u8, s: State) -> bool {
     let class = kind / 16;
     if (class != types::UNSIGNED) & (class != types::SIGNED) {
@@ -47,7 +38,11 @@ pub fn mark(room: &mut Room, kind: u8, s: State) -> bool {
     }
     let marks = room::MARKS_AT + limits::MAX_FIELDS * lent::wide8(s.targets);
     put::byte(room, marks + last_row(s), 1);
-    put_largest(room, body_at(s), kind);
+    let ones = b"\xff\xff\xff\xff\xff\xff\xff\xff";
+    let end = put::text(room, body_at(s), lent::part(ones, 0, (kind % 16) as usize));
+    if class == types::SIGNED {
+        put::byte(room, lent::greater(end, 1) - 1, 127);
+    }
     true
 }
 

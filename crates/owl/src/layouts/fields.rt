@@ -64,46 +64,31 @@ fn type_of(word: &[u8], room: &Room, structs: u8) -> usize {
     types::TYPES + pack::named(Holder::Struct, l, structs, word) as usize
 }
 
-// 16 x class + width; nothing of a struct.
-fn kind_of(room: &Room, t: usize) -> u8 {
-    if t < types::TYPES {
-        return lent::byte_at(room, t);
-    }
-    0
-}
-
 // ---- the call, and the target's mark and default
 
 // What no scalar has as its width is refused by the call.
-fn size_of(kind: u8, many: u16) -> u16 {
-    let n = many % 4097;
-    match kind % 16 {
+fn scalar(name: &[u8], room: &Room, id: u16, t: u8, kind: u8, e: Extras, s: State) -> State {
+    let n = e.many % 4097;
+    let size = match kind % 16 {
         1 => n,
         2 => 2 * n,
         4 => 4 * n,
         _ => 8 * n,
-    }
-}
-
-fn scalar(name: &[u8], room: &Room, id: u16, t: u8, kind: u8, e: Extras, s: State) -> State {
-    let size = size_of(kind, e.many);
-    if e.counted {
-        let flag = lent::byte_at(room, types::TYPES);
-        return calls::scalar(name, room, id, t, size, flag, s);
-    }
-    calls::scalar(name, room, id, t, size, 0, s)
-}
-
-fn nested(name: &[u8], room: &Room, id: u16, k: u16, e: Extras, s: State) -> State {
-    if e.counted {
-        return calls::nested(name, room, id, k, Times::Array(e.many), s);
-    }
-    calls::nested(name, room, id, k, Times::One, s)
+    };
+    let array = lent::byte_at(room, types::TYPES);
+    let flags = if e.counted { array } else { 0 };
+    calls::scalar(name, room, id, t, size, flags, s)
 }
 
 fn called(name: &[u8], room: &Room, id: u16, t: usize, kind: u8, e: Extras, s: State) -> State {
     if types::TYPES <= t {
-        return nested(name, room, id, ((t - types::TYPES) % 256) as u16, e, s);
+        let k = ((t - types::TYPES) % 256) as u16;
+        let times = if e.counted {
+            Times::Array(e.many)
+        } else {
+            Times::One
+        };
+        return calls::nested(name, room, id, k, times, s);
     }
     if kind / 16 == types::STRING {
         return calls::string(name, room, id, t as u8, e.many, s);
@@ -134,7 +119,8 @@ fn typed(line: &[u8], room: &mut Room, e: Extras, s: State) -> State {
     if t == types::TYPES + lent::wide8(s.structs) {
         return state::bad(s, 3, fault::NO_TYPE);
     }
-    let kind = kind_of(room, t);
+    // 16 x class + width; nothing of a struct.
+    let kind = lent::byte_at(lent::part(room, 0, types::TYPES), t);
     if (kind / 16 == types::STRING) & !e.counted {
         return state::bad(s, SHORTEST, fault::NO_COUNT);
     }

@@ -1,4 +1,5 @@
-// The items inside a record that are no fields, and what the plan asks.
+// The items that are no fields and open nothing.
+use crate::layouts;
 use crate::layouts::calls;
 use crate::layouts::fault;
 use crate::layouts::state;
@@ -12,52 +13,24 @@ use owl_blocks::room;
 use owl_blocks::room::Room;
 use tuppenceowl::Admitted;
 
-// ---- inside a record
-
-pub fn at(line: &[u8], room: &Room, s: State) -> State {
-    let offset = single(line);
-    if offset == words::NONE {
-        return state::bad(s, 1, fault::NO_NUMBER);
-    }
-    calls::at(room, offset, s)
-}
-
-pub fn base(line: &[u8], room: &Room, s: State) -> State {
-    if owl_words::words(line) != 1 {
-        return state::bad(s, 1, fault::TOO_MANY);
-    }
-    calls::base(room, s)
-}
-
-// ---- what the plan asks
-
-// The only number of a line.
-fn single(line: &[u8]) -> usize {
-    if owl_words::words(line) != 2 {
-        return words::NONE;
-    }
-    words::number(line, 1)
-}
-
-pub fn header(line: &[u8], s: State) -> State {
-    let n = single(line);
-    if n == words::NONE {
+// One number: where the next field stands, the header's length, or the schema that is wanted.
+pub fn numbered(item: usize, line: &[u8], room: &Room, s: State) -> State {
+    let n = words::number(line, 1);
+    if (owl_words::words(line) != 2) | (n == words::NONE) {
         return state::bad(s, 1, fault::NO_NUMBER);
     }
     let mut next = s;
-    next.header = n;
-    next.header_line = s.line;
-    next
-}
-
-pub fn wanted(line: &[u8], s: State) -> State {
-    let n = single(line);
-    if n == words::NONE {
-        return state::bad(s, 1, fault::NO_NUMBER);
+    match item {
+        layouts::AT => return calls::at(room, n, s),
+        layouts::HEADER => {
+            next.header = n;
+            next.header_line = s.line;
+        }
+        _ => {
+            next.wanted = true;
+            next.schema = (n % 65536) as u16;
+        }
     }
-    let mut next = s;
-    next.wanted = true;
-    next.schema = (n % 65536) as u16;
     next
 }
 
@@ -105,12 +78,4 @@ pub fn catalogue(line: &[u8], room: &mut Room, s: State) -> State {
         Admitted::Fine => s,
         Admitted::Refused(r) => state::bad(s, 1, refusal::number(r) as usize),
     }
-}
-
-// A line that has no item is blank.
-pub fn none(line: &[u8], s: State) -> State {
-    if owl_words::words(line) == 0 {
-        return s;
-    }
-    state::bad(s, 0, fault::NO_ITEM)
 }

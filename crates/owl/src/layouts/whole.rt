@@ -70,40 +70,34 @@ pub fn open_struct(line: &[u8], room: &mut Room, s: State) -> State {
 
 // ---- closing
 
-fn closed_record(room: &mut Room, s: State, k: u8, end: usize) -> usize {
+// A record of a side, or a struct of both; there are at most sixteen of each.
+fn closed(room: &mut Room, s: State) -> State {
     let rows = s.rows;
     let names = s.names;
     let n = lent::lesser(s.cursor.count, limits::MAX_FIELDS);
     let table = lent::part(&rows, 0, field::SIZE * n);
     let titles = lent::part(&names, 0, block::NAME * n);
-    pack::close_record(room, s.open, k, end, s.cursor.base, table, titles)
-}
-
-fn closed_struct(room: &mut Room, s: State, side: u8, end: usize) -> usize {
-    let rows = s.rows;
-    let n = lent::lesser(s.cursor.count, limits::MAX_FIELDS);
-    let table = lent::part(&rows, 0, field::SIZE * n);
-    pack::close_struct(room, side, s.structs, end, s.cursor.cursor, table)
-}
-
-// A record of a side, or a struct of both; there are at most sixteen of each.
-fn closed(room: &mut Room, s: State) -> State {
-    let mut next = s;
+    let base = s.cursor.base;
+    let size = s.cursor.cursor;
     let open = s.open;
+    let mut next = s;
     match open {
         state::SOURCE => {
-            next.source_end = closed_record(room, s, s.sources, s.source_end);
+            let end = pack::close_record(room, open, s.sources, s.source_end, base, table, titles);
+            next.source_end = end;
             next.sources = s.sources % 255 + 1;
         }
         state::TARGET => {
             pack::put_line(room, s.targets, s.opened);
-            next.target_end = closed_record(room, s, s.targets, s.target_end);
+            let end = pack::close_record(room, open, s.targets, s.target_end, base, table, titles);
+            next.target_end = end;
             next.targets = s.targets % 255 + 1;
         }
         _ => {
-            next.source_end = closed_struct(room, s, state::SOURCE, s.source_end);
-            next.target_end = closed_struct(room, s, state::TARGET, s.target_end);
-            next.structs = s.structs % 255 + 1;
+            let k = s.structs;
+            next.source_end = pack::close_struct(room, state::SOURCE, k, s.source_end, size, table);
+            next.target_end = pack::close_struct(room, state::TARGET, k, s.target_end, size, table);
+            next.structs = k % 255 + 1;
         }
     }
     next.open = state::NOTHING;

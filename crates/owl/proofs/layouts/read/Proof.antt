@@ -32,9 +32,6 @@ part-take-start c = search needs
 part-take-end : tie.Need-part-take-end Inv-loop μ-loop
 part-take-end c = search needs
 
-at-line-requires : tie.Need-at-line-requires Inv-loop μ-loop
-at-line-requires c κs = search needs
-
 take-requires : tie.Need-take-requires Inv-loop μ-loop
 take-requires c κs = search needs
 
@@ -66,7 +63,6 @@ read-spec =
     sub-take
     part-take-start
     part-take-end
-    at-line-requires
     take-requires
     returns
     loop-less
