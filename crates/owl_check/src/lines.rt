@@ -172,19 +172,15 @@ fn look_int(line: &[u8], s: &mut Seen) -> usize {
     look_places(line, s, size, wide)
 }
 
-fn look_step(line: &[u8], s: &mut Seen) -> usize {
-    match owl_words::which(b"copy int", caseline::word(line, 0)) {
-        0 => look_copy(line, s),
-        1 => look_int(line, s),
-        _ => flaw::STEP_WORD,
-    }
-}
-
 // The line of this number: its flaw.
 pub fn look(line: &[u8], number: usize, s: &mut Seen) -> usize {
     match number {
         1 => look_plan(line, s),
         2 => look_body(line, s),
-        _ => look_step(line, s),
+        _ => match owl_words::which(b"copy int", caseline::word(line, 0)) {
+            0 => look_copy(line, s),
+            1 => look_int(line, s),
+            _ => flaw::STEP_WORD,
+        },
     }
 }

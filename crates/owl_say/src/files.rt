@@ -20,31 +20,23 @@ pub fn complain_arg(k: usize) {
     say_arg(libc::STDERR_FILENO, k);
 }
 
-// A full room: there may be more.
-fn complain_long(path: &[u8]) {
-    crate::complain(path);
-    crate::complain(b": longer than 65535 bytes, the most that is read\n");
-}
-
-// A file that ends at once, or one that cannot be read, as a directory.
-fn complain_empty(fd: i32, path: &[u8]) {
-    let mut byte = [0u8; 1];
-    if libc::read(fd, &mut byte) < 0 {
-        os::fail(path);
-    } else {
-        crate::complain(path);
-        crate::complain(b": an empty file\n");
-    }
-}
-
 fn read(fd: i32, path: &[u8], text: &mut Text) -> Loaded {
     let n = io::read_full(fd, text);
+    // A file that ends at once, or one that cannot be read, as a directory.
     if n == 0 {
-        complain_empty(fd, path);
+        let mut byte = [0u8; 1];
+        if libc::read(fd, &mut byte) < 0 {
+            os::fail(path);
+        } else {
+            crate::complain(path);
+            crate::complain(b": an empty file\n");
+        }
         return Loaded::Failed;
     }
+    // A full room: there may be more.
     if n == ROOM {
-        complain_long(path);
+        crate::complain(path);
+        crate::complain(b": longer than 65535 bytes, the most that is read\n");
         return Loaded::Failed;
     }
     Loaded::Bytes(n)

@@ -63,20 +63,18 @@ fn say_fault(number: usize) {
     );
 }
 
-fn on_word(slot: &Slot, source_header: usize, word: &[u8], number: usize) {
-    let mut bytes = [0u8; input::ROOM_SIZE / 2];
-    match caseline::hex(word, &mut bytes) {
-        Parsed::Is(n) => upgrade(slot, source_header, lent::part(&bytes, 0, n)),
-        Parsed::Malformed => say_fault(number),
-    }
-}
-
 // An empty line or a comment is passed over.
 pub fn on_line(slot: &Slot, source_header: usize, line: &[u8], number: usize) {
     let content = owl_words::content(line);
     match owl_words::words(content) {
         0 => return,
-        1 => on_word(slot, source_header, owl_words::word(content, 0), number),
+        1 => {
+            let mut bytes = [0u8; input::ROOM_SIZE / 2];
+            match caseline::hex(owl_words::word(content, 0), &mut bytes) {
+                Parsed::Is(n) => upgrade(slot, source_header, lent::part(&bytes, 0, n)),
+                Parsed::Malformed => say_fault(number),
+            }
+        }
         _ => say_fault(number),
     }
 }
