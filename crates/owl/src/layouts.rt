@@ -87,7 +87,7 @@ fn take_inner(item: usize, line: &[u8], room: &mut Room, s: State) -> State {
     }
     match item {
         FIELD => fields::take(line, room, s),
-        BASE => calls::base(line, room, s),
+        BASE => items::base(line, room, s),
         AT | HEADER | WANTED => items::numbered(item, line, room, s),
         CATALOGUE => items::catalogue(line, room, s),
         // A line that has no item is blank.

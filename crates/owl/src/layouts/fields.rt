@@ -1,5 +1,6 @@
 // The item 'field': its words, the call of the field cursor, and what a target's field has besides.
 use crate::layouts::calls;
+use crate::layouts::calls::Call;
 use crate::layouts::defaults;
 use crate::layouts::fault;
 use crate::layouts::state;
@@ -67,7 +68,7 @@ fn type_of(word: &[u8], room: &Room, structs: u8) -> usize {
 // ---- the call, and the target's mark and default
 
 // What no scalar has as its width is refused by the call.
-fn scalar(name: &[u8], room: &Room, id: u16, t: u8, kind: u8, e: Extras, s: State) -> State {
+fn scalar(room: &Room, id: u16, t: u8, kind: u8, e: Extras) -> Call {
     let n = e.many % 4097;
     let size = match kind % 16 {
         1 => n,
@@ -76,24 +77,26 @@ fn scalar(name: &[u8], room: &Room, id: u16, t: u8, kind: u8, e: Extras, s: Stat
         _ => 8 * n,
     };
     let array = lent::byte_at(room, types::TYPES);
-    let flags = if e.counted { array } else { 0 };
-    calls::scalar(name, room, id, t, size, flags, s)
+    Call::Scalar(id, t, size, if e.counted { array } else { 0 })
 }
 
-fn called(name: &[u8], room: &Room, id: u16, t: usize, kind: u8, e: Extras, s: State) -> State {
+fn call_of(room: &Room, id: u16, t: usize, kind: u8, e: Extras) -> Call {
     if types::TYPES <= t {
         let k = ((t - types::TYPES) % 256) as u16;
-        let times = if e.counted {
-            Times::Array(e.many)
-        } else {
-            Times::One
-        };
-        return calls::nested(name, room, id, k, times, s);
+        return Call::Nested(
+            id,
+            k,
+            if e.counted {
+                Times::Array(e.many)
+            } else {
+                Times::One
+            },
+        );
     }
     if kind / 16 == types::STRING {
-        return calls::string(name, room, id, t as u8, e.many, s);
+        return Call::String(id, t as u8, e.many);
     }
-    scalar(name, room, id, t as u8, kind, e, s)
+    scalar(room, id, t as u8, kind, e)
 }
 
 fn kept(line: &[u8], room: &mut Room, kind: u8, e: Extras, s: State) -> State {
@@ -129,7 +132,8 @@ fn typed(line: &[u8], room: &mut Room, e: Extras, s: State) -> State {
         return state::bad(s, 2, fault::NO_NUMBER);
     }
     let name = owl_words::word(line, 1);
-    let next = called(name, room, (id % 65536) as u16, t, kind, e, s);
+    let call = call_of(room, (id % 65536) as u16, t, kind, e);
+    let next = calls::made(call, name, 3, room, s);
     kept(line, room, kind, e, next)
 }
 

@@ -1,6 +1,7 @@
 // The items that are no fields and open nothing.
 use crate::layouts;
 use crate::layouts::calls;
+use crate::layouts::calls::Call;
 use crate::layouts::fault;
 use crate::layouts::state;
 use crate::layouts::state::State;
@@ -13,6 +14,13 @@ use owl_blocks::room;
 use owl_blocks::room::Room;
 use tuppenceowl::Admitted;
 
+pub fn base(line: &[u8], room: &Room, s: State) -> State {
+    if owl_words::words(line) != 1 {
+        return state::bad(s, 1, fault::TOO_MANY);
+    }
+    calls::made(Call::FinishBase, b"", 0, room, s)
+}
+
 // One number: where the next field stands, the header's length, or the schema that is wanted.
 pub fn numbered(item: usize, line: &[u8], room: &Room, s: State) -> State {
     let n = words::number(line, 1);
@@ -21,7 +29,7 @@ pub fn numbered(item: usize, line: &[u8], room: &Room, s: State) -> State {
     }
     let mut next = s;
     match item {
-        layouts::AT => return calls::at(room, n, s),
+        layouts::AT => return calls::made(Call::At(n), b"", 1, room, s),
         layouts::HEADER => {
             next.header = n;
             next.header_line = s.line;

@@ -1,5 +1,6 @@
 // What opens a record or a struct, and what closes it: the cursor finishes it, and it is packed into its block.
 use crate::layouts::calls;
+use crate::layouts::calls::Call;
 use crate::layouts::fault;
 use crate::layouts::state;
 use crate::layouts::state::State;
@@ -117,7 +118,7 @@ pub fn close(room: &mut Room, s: State) -> State {
     if s.open == state::NOTHING {
         return s;
     }
-    let finished = calls::finish(room, s);
+    let finished = calls::made(Call::Finish, b"", 1, room, s);
     if finished.why != fault::FINE {
         return at_opening(s, finished.why);
     }
