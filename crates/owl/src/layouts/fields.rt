@@ -83,15 +83,12 @@ fn scalar(room: &Room, id: u16, t: u8, kind: u8, e: Extras) -> Call {
 fn call_of(room: &Room, id: u16, t: usize, kind: u8, e: Extras) -> Call {
     if types::TYPES <= t {
         let k = ((t - types::TYPES) % 256) as u16;
-        return Call::Nested(
-            id,
-            k,
-            if e.counted {
-                Times::Array(e.many)
-            } else {
-                Times::One
-            },
-        );
+        let times = if e.counted {
+            Times::Array(e.many)
+        } else {
+            Times::One
+        };
+        return Call::Nested(id, k, times);
     }
     if kind / 16 == types::STRING {
         return Call::String(id, t as u8, e.many);
