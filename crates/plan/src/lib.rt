@@ -1,3 +1,2 @@
 // What a target field takes from a source record: op_for of dbn's upgrade.rs.
-pub mod places;
 pub mod rule;

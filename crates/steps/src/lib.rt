@@ -10,7 +10,6 @@ ghost use Rattle.plan.specs.Rule.{wantAt, wants};
 ghost use Rattle.steps.specs.Steps.{stepsOf, plannedSteps};
 use coalesce::Bases;
 use coalesce::Joining;
-use plan::places;
 use plan::rule;
 use plan::rule::Carried;
 use step::Op;

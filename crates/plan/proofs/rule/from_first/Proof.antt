@@ -2,7 +2,7 @@ use borrow.Author.Needs.{needs}
 use mathlib.Core.Path.{_∙_, sym}
 use native.Mathlib.Omega.{arith}
 use Rattle.field.specs.Field.{fieldsOf}
-use Rattle.plan.proofs.Firsts.{gives, inside, no-place}
+use Rattle.places.proofs.Firsts.{gives, inside, no-place}
 use Rattle.plan.specs.Rule.{sameId, stepFor}
 use Rattle.plan.specs.declared.rule.Carried.the-variants.{Default}
 use Rattle.plan.proofs.rule.from_first.Statement.{statement}

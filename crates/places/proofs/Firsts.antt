@@ -9,7 +9,7 @@ use Rattle.lent.specs.Scan.{gather, first}
 use Rattle.lent.proofs.Scan.{turn, none}
 use Rattle.field.specs.Field.{fieldAt, fieldsOf}
 use Rattle.field.specs.declared.FieldDef.{FieldDef}
-use Rattle.plan.specs.Places.{placeFrom}
+use Rattle.places.specs.Places.{placeFrom}
 
 -- ---- the fields from place k on
 

@@ -3,11 +3,11 @@ use borrow.Author.Needs.{needs}
 use mathlib.Core.Path.{_∙_, sym}
 use native.Mathlib.Omega.{arith}
 use Rattle.field.specs.Field.{fieldAt}
-use Rattle.plan.proofs.Firsts.{inside}
-use Rattle.plan.proofs.Indexed.{entry, is-there, not-there}
-use Rattle.plan.specs.Places.{hasLow}
-use Rattle.plan.proofs.places.find.Statement.{statement}
-use Rattle.plan.proofs.places.find.Tie as tie
+use Rattle.places.proofs.Firsts.{inside}
+use Rattle.places.proofs.Indexed.{entry, is-there, not-there}
+use Rattle.places.specs.Places.{hasLow}
+use Rattle.places.proofs.find.Statement.{statement}
+use Rattle.places.proofs.find.Tie as tie
 
 entry-of-requires : tie.Need-entry-of-requires
 entry-of-requires c κs = search needs

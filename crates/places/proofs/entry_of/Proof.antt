@@ -1,7 +1,7 @@
 use borrow.Author.Needs.{needs}
 use mathlib.Core.Path.{_∙_}
-use Rattle.plan.proofs.places.entry_of.Statement.{statement}
-use Rattle.plan.proofs.places.entry_of.Tie as tie
+use Rattle.places.proofs.entry_of.Statement.{statement}
+use Rattle.places.proofs.entry_of.Tie as tie
 
 low-requires : tie.Need-low-requires
 low-requires c κs = search needs

@@ -5,10 +5,10 @@ use borrow.Author.Tests.{eq-eqb, ne-eqb}
 use mathlib.Core.Path.{_∙_, _≡_, ap, refl, sym}
 use native.Mathlib.Omega.{arith}
 use Rattle.field.specs.Field.{fieldAt, fieldsOf}
-use Rattle.plan.proofs.Firsts.{fieldsFrom, from-start, place-here, place-later, place-nowhere}
-use Rattle.plan.specs.Places.{hasId, placeFrom, placeOf}
-use Rattle.plan.proofs.places.scan.Statement.{statement}
-use Rattle.plan.proofs.places.scan.Tie as tie
+use Rattle.places.proofs.Firsts.{fieldsFrom, from-start, place-here, place-later, place-nowhere}
+use Rattle.places.specs.Places.{hasId, placeFrom, placeOf}
+use Rattle.places.proofs.scan.Statement.{statement}
+use Rattle.places.proofs.scan.Tie as tie
 
 abbrev Inv-loop : tie.InvT-loop
 Inv-loop t id n k₀ k = (k ≤ n) × (placeFrom (hasId id) k (fieldsFrom t k) ≡ placeOf id (fieldsOf t))

@@ -10,8 +10,8 @@ use lib.ListN.{length, getD, set, replicate, getD-replicate}
 use lib.Seq.{getD-set-same, getD-set-other}
 use Rattle.field.specs.Field.{fieldAt, fieldsOf}
 use Rattle.field.specs.declared.FieldDef.{FieldDef}
-use Rattle.plan.specs.Places.{placeFrom, hasId, hasLow, placeOf, IndexOf}
-use Rattle.plan.proofs.Firsts.{fieldsFrom, from-turn, from-start, from-end, none-at-all, same-place}
+use Rattle.places.specs.Places.{placeFrom, hasId, hasLow, placeOf, IndexOf}
+use Rattle.places.proofs.Firsts.{fieldsFrom, from-turn, from-start, from-end, none-at-all, same-place}
 
 low-too : (id : ℕ) (f : FieldDef) → hasId id f ≡ true → hasLow (id % 256) f ≡ true
 low-too id f e = eq-eqb (f .«field_id» % 256) (id % 256) (ap (λ (x : ℕ). x % 256) (eqb-true (f .«field_id») id e))

@@ -4,9 +4,9 @@ use borrow.Author.Needs.{needs}
 use lib.ListN.{length, length-set}
 use mathlib.Core.Path.{_≡_, refl}
 use native.Mathlib.Omega.{arith}
-use Rattle.plan.proofs.Indexed.{IndexFrom, all-in, none-yet, put-first}
-use Rattle.plan.proofs.places.index.Statement.{statement}
-use Rattle.plan.proofs.places.index.Tie as tie
+use Rattle.places.proofs.Indexed.{IndexFrom, all-in, none-yet, put-first}
+use Rattle.places.proofs.index.Statement.{statement}
+use Rattle.places.proofs.index.Tie as tie
 
 abbrev Inv-loop : tie.InvT-loop
 Inv-loop t n index₀ left₀ index left = (left ≤ n) × (length index ≡ 256) × IndexFrom t index left

@@ -4,7 +4,7 @@ ghost use Prim.Native.Nat.{_*_, _%_, _<_, _≤_};
 ghost use lib.ListN.{length, getD};
 ghost use Rattle.limits.specs.Limits.{maxFields};
 ghost use Rattle.field.specs.Field.{fieldsOf};
-ghost use Rattle.plan.specs.Places.{placeOf, IndexOf};
+ghost use Rattle.places.specs.Places.{placeOf, IndexOf};
 
 // A place as the index holds it: one more than it is, since 0 is none.
 fn in_a_byte(n: usize) -> u8
