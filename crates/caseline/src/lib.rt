@@ -1,4 +1,7 @@
-// The parts of a line of cases: words that tabs part, bytes in hex, numbers; and the answer that is put together.
+// The parts of a line of cases: words that tabs part, bytes in hex, numbers; and the answer that is put together. Where lines come from, and lines
+// that people write.
+pub mod blanks;
+pub mod input;
 pub mod put;
 
 ghost use Prim.Native.Nat.{_+_, _≤_};

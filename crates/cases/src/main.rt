@@ -13,7 +13,8 @@ mod verdicts;
 mod words;
 
 use answer::Out;
-use input::Room;
+use caseline::input;
+use caseline::input::Room;
 use kept::Kept;
 use kept::Made;
 use kept::Slots;

@@ -9,3 +9,5 @@ pub mod Sequence
 pub mod Layouts
 pub mod Example
 pub mod Marks
+pub mod Made
+pub mod Calls

@@ -1,6 +1,7 @@
 // Faults of a text of layouts: what was wrong, where, and what was expected.
 use crate::layouts::fault;
 use crate::layouts::state::State;
+use caseline::blanks;
 use libc::STDERR_FILENO;
 use owl_say::files;
 use owl_say::form;
@@ -13,9 +14,9 @@ const QUOTED: usize = 40;
 
 // How an item is written.
 fn say_form(line: &[u8]) {
-    let item = owl_words::which(
+    let item = blanks::which(
         b"field struct plan base source target",
-        owl_words::word(line, 0),
+        blanks::word(line, 0),
     );
     let written = caseline::word(
         b"field NAME ID TYPE [N] [mark] [default HEX]\n\
@@ -76,7 +77,7 @@ pub fn of_file(text: &[u8]) {
 }
 
 fn quote(line: &[u8], k: usize) {
-    let word = owl_words::word(line, k);
+    let word = blanks::word(line, k);
     if word.len() == 0 {
         return owl_say::complain(b"at the end: ");
     }
@@ -92,7 +93,7 @@ pub fn say(text: &[u8], s: State) {
     place(s.line);
     let from = lent::lesser(s.from, text.len());
     let end = caseline::find(text, from, NEWLINE);
-    let line = owl_words::content(&text[from..end]);
+    let line = blanks::content(&text[from..end]);
     quote(line, s.word);
     say_why(line, s.why);
 }

@@ -8,6 +8,7 @@ pub mod state;
 mod whole;
 mod words;
 
+use caseline::blanks;
 use owl_blocks::pack;
 use owl_blocks::room::Room;
 use owl_blocks::types;
@@ -41,9 +42,9 @@ const CATALOGUE: usize = 9;
 const MOST_LINES: usize = 1000000;
 
 fn item_of(line: &[u8]) -> usize {
-    owl_words::which(
+    blanks::which(
         b"source target struct plan field at base header wanted catalogue",
-        owl_words::word(line, 0),
+        blanks::word(line, 0),
     )
 }
 
@@ -51,7 +52,7 @@ fn item_of(line: &[u8]) -> usize {
 
 fn counted(n: u8, line: &[u8], item: usize) -> u8 {
     if n < 255 {
-        if item_of(owl_words::content(line)) == item {
+        if item_of(blanks::content(line)) == item {
             return n + 1;
         }
     }
@@ -92,7 +93,7 @@ fn take_inner(item: usize, line: &[u8], room: &mut Room, s: State) -> State {
         CATALOGUE => items::catalogue(line, room, s),
         // A line that has no item is blank.
         _ => {
-            if owl_words::words(line) == 0 {
+            if blanks::words(line) == 0 {
                 return s;
             }
             state::bad(s, 0, fault::NO_ITEM)
@@ -102,7 +103,7 @@ fn take_inner(item: usize, line: &[u8], room: &mut Room, s: State) -> State {
 
 // The line that begins at `from`.
 fn take(whole_line: &[u8], from: usize, room: &mut Room, before: State) -> State {
-    let line = owl_words::content(whole_line);
+    let line = blanks::content(whole_line);
     let item = item_of(line);
     let mut here = before;
     here.line = lent::lesser(before.line, MOST_LINES) + 1;

@@ -6,6 +6,7 @@ mod layouts;
 mod making;
 mod plans;
 
+use caseline::blanks;
 use owl_say::files;
 use owl_say::files::Loaded;
 use owl_say::files::Text;
@@ -35,7 +36,7 @@ fn main() {
     }
     let mut word = io::buffer();
     let n = os::arg(1, &mut word);
-    match owl_words::which(b"help plan hash upgrade check map", &word[..n]) {
+    match blanks::which(b"help plan hash upgrade check map", &word[..n]) {
         0 => help::show(),
         1 => on_layouts(false),
         2 => on_layouts(true),

@@ -1,6 +1,7 @@
 // The types that a line may name, with dbn's names and the numbers of the catalogue that is built in.
 use crate::room::Room;
 use caseline::Parsed;
+use caseline::blanks;
 
 // The numbers that a type may have. Behind their kinds the catalogue has the flag of an array.
 pub const TYPES: usize = 256;
@@ -13,7 +14,7 @@ pub const STRING: u8 = 4;
 
 // The type's number, below TYPES where it is a type; one of another catalogue is named by its number.
 pub fn of_word(word: &[u8]) -> usize {
-    let k = owl_words::which(
+    let k = blanks::which(
         b"u8 u16 u32 u64 i8 i16 i32 i64 price cstr symbol char timestamp \
         enum16 enumchar enum8 bits8 bits16 bits32 bits64 f32 f64",
         word,

@@ -3,6 +3,7 @@ ghost use Prim.Native.Nat.{_≤_};
 use crate::flaw;
 use crate::flaw::FIELD;
 use caseline::Parsed;
+use caseline::blanks;
 
 // What the lines so far said, at the places below.
 pub type Seen = [usize; 4];
@@ -177,7 +178,7 @@ pub fn look(line: &[u8], number: usize, s: &mut Seen) -> usize {
     match number {
         1 => look_plan(line, s),
         2 => look_body(line, s),
-        _ => match owl_words::which(b"copy int", caseline::word(line, 0)) {
+        _ => match blanks::which(b"copy int", caseline::word(line, 0)) {
             0 => look_copy(line, s),
             1 => look_int(line, s),
             _ => flaw::STEP_WORD,

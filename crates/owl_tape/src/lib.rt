@@ -1,8 +1,10 @@
 // A tape: records in hex, one a line of standard input, upgraded by one plan. Each record has one line of the output.
 use caseline::Parsed;
+use caseline::blanks;
+use caseline::input;
+use caseline::input::Room;
 use caseline::put;
 use dispatch::Upgraded;
-use input::Room;
 use libc::STDOUT_FILENO;
 use owl_say::form;
 use owl_say::refusals;
@@ -65,12 +67,12 @@ fn say_fault(number: usize) {
 
 // An empty line or a comment is passed over.
 pub fn on_line(slot: &Slot, source_header: usize, line: &[u8], number: usize) {
-    let content = owl_words::content(line);
-    match owl_words::words(content) {
+    let content = blanks::content(line);
+    match blanks::words(content) {
         0 => return,
         1 => {
             let mut bytes = [0u8; input::ROOM_SIZE / 2];
-            match caseline::hex(owl_words::word(content, 0), &mut bytes) {
+            match caseline::hex(blanks::word(content, 0), &mut bytes) {
                 Parsed::Is(n) => upgrade(slot, source_header, lent::part(&bytes, 0, n)),
                 Parsed::Malformed => say_fault(number),
             }

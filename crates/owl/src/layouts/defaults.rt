@@ -4,6 +4,7 @@ use crate::layouts::fault;
 use crate::layouts::state;
 use crate::layouts::state::State;
 use caseline::Parsed;
+use caseline::blanks;
 use caseline::put;
 use owl_blocks::room;
 use owl_blocks::room::Room;
@@ -50,7 +51,7 @@ pub fn mark(room: &mut Room, kind: u8, s: State) -> bool {
 pub fn put(line: &[u8], room: &mut Room, words: usize, s: State) -> State {
     let last = lent::greater(words, 1) - 1;
     let mut space = [0u8; limits::MAX_BYTES];
-    match caseline::hex(owl_words::word(line, last), &mut space) {
+    match caseline::hex(blanks::word(line, last), &mut space) {
         Parsed::Is(n) => {
             if n != in_row(s, 4) {
                 return state::bad(s, last, fault::DEFAULT_LENGTH);

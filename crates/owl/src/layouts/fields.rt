@@ -8,6 +8,7 @@ use crate::layouts::state::State;
 use crate::layouts::words;
 use builders::Times;
 use caseline::Parsed;
+use caseline::blanks;
 use layout::block::Holder;
 use owl_blocks::pack;
 use owl_blocks::room;
@@ -34,15 +35,15 @@ pub struct Extras {
 fn extras_of(line: &[u8]) -> Extras {
     let mut many: u16 = 1;
     let mut counted = false;
-    if let Parsed::Is(n) = caseline::number(owl_words::word(line, SHORTEST)) {
+    if let Parsed::Is(n) = caseline::number(blanks::word(line, SHORTEST)) {
         many = lent::lesser(n, limits::MAX_BYTES + 1) as u16;
         counted = true;
     }
     let at = SHORTEST + lent::one(counted) as usize;
     let options = b"mark default";
-    let marked = owl_words::which(options, owl_words::word(line, at)) == 0;
+    let marked = blanks::which(options, blanks::word(line, at)) == 0;
     let next = at + lent::one(marked) as usize;
-    let defaulted = owl_words::which(options, owl_words::word(line, next)) == 1;
+    let defaulted = blanks::which(options, blanks::word(line, next)) == 1;
     let end = next + 2 * lent::one(defaulted) as usize;
     Extras {
         counted,
@@ -115,7 +116,7 @@ fn kept(line: &[u8], room: &mut Room, kind: u8, e: Extras, s: State) -> State {
 }
 
 fn typed(line: &[u8], room: &mut Room, e: Extras, s: State) -> State {
-    let t = type_of(owl_words::word(line, 3), room, s.structs);
+    let t = type_of(blanks::word(line, 3), room, s.structs);
     if t == types::TYPES + lent::wide8(s.structs) {
         return state::bad(s, 3, fault::NO_TYPE);
     }
@@ -128,7 +129,7 @@ fn typed(line: &[u8], room: &mut Room, e: Extras, s: State) -> State {
     if id == words::NONE {
         return state::bad(s, 2, fault::NO_NUMBER);
     }
-    let name = owl_words::word(line, 1);
+    let name = blanks::word(line, 1);
     let call = call_of(room, (id % 65536) as u16, t, kind, e);
     let next = calls::made(call, name, 3, room, s);
     kept(line, room, kind, e, next)
@@ -136,14 +137,14 @@ fn typed(line: &[u8], room: &mut Room, e: Extras, s: State) -> State {
 
 pub fn take(line: &[u8], room: &mut Room, s: State) -> State {
     let e = extras_of(line);
-    let n = owl_words::words(line);
+    let n = blanks::words(line);
     if n < e.end {
         return state::bad(s, n, fault::TOO_FEW);
     }
     if e.end < n {
         return state::bad(s, e.end, fault::NOT_OPTIONAL);
     }
-    if limits::MAX_NAME < owl_words::word(line, 1).len() {
+    if limits::MAX_NAME < blanks::word(line, 1).len() {
         return state::bad(s, 1, fault::LONG_NAME);
     }
     if MOST < e.many {

@@ -7,6 +7,7 @@ use crate::layouts::state;
 use crate::layouts::state::State;
 use crate::layouts::words;
 use caseline::Parsed;
+use caseline::blanks;
 use layout::block::Holder;
 use limits::refusal;
 use owl_blocks::pack;
@@ -15,7 +16,7 @@ use owl_blocks::room::Room;
 use tuppenceowl::Admitted;
 
 pub fn base(line: &[u8], room: &Room, s: State) -> State {
-    if owl_words::words(line) != 1 {
+    if blanks::words(line) != 1 {
         return state::bad(s, 1, fault::TOO_MANY);
     }
     calls::made(Call::FinishBase, b"", 0, room, s)
@@ -24,7 +25,7 @@ pub fn base(line: &[u8], room: &Room, s: State) -> State {
 // One number: where the next field stands, the header's length, or the schema that is wanted.
 pub fn numbered(item: usize, line: &[u8], room: &Room, s: State) -> State {
     let n = words::number(line, 1);
-    if (owl_words::words(line) != 2) | (n == words::NONE) {
+    if (blanks::words(line) != 2) | (n == words::NONE) {
         return state::bad(s, 1, fault::NO_NUMBER);
     }
     let mut next = s;
@@ -48,7 +49,7 @@ fn record_of(line: &[u8], room: &Room, side: u8, n: u8, k: usize) -> u8 {
         Holder::Record,
         room::block(room, side),
         n,
-        owl_words::word(line, k),
+        blanks::word(line, k),
     )
 }
 
@@ -75,7 +76,7 @@ pub fn catalogue(line: &[u8], room: &mut Room, s: State) -> State {
     if s.opened != 0 {
         return state::bad(s, 0, fault::LATE);
     }
-    let n = match caseline::hex(owl_words::word(line, 1), room) {
+    let n = match caseline::hex(blanks::word(line, 1), room) {
         Parsed::Is(n) => n,
         Parsed::Malformed => 0,
     };

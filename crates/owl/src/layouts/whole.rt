@@ -5,6 +5,7 @@ use crate::layouts::fault;
 use crate::layouts::state;
 use crate::layouts::state::State;
 use crate::layouts::words;
+use caseline::blanks;
 use layout::block;
 use layout::block::Holder;
 use owl_blocks::pack;
@@ -30,7 +31,7 @@ fn checked(line: &[u8], words: usize, count: u8, most: usize, s: State) -> State
     if counted.why != fault::FINE {
         return counted;
     }
-    if limits::MAX_NAME < owl_words::word(line, 1).len() {
+    if limits::MAX_NAME < blanks::word(line, 1).len() {
         return state::bad(s, 1, fault::LONG_NAME);
     }
     if most <= count as usize {
@@ -52,7 +53,7 @@ pub fn open_record(line: &[u8], room: &mut Room, side: u8, count: u8, s: State) 
     if schema == words::NONE {
         return state::bad(s, 3, fault::NO_NUMBER);
     }
-    let name = owl_words::word(line, 1);
+    let name = blanks::word(line, 1);
     pack::open_record(room, side, count, rtype + 65536 * schema, name);
     opened(s, side, Holder::Record)
 }
@@ -63,7 +64,7 @@ pub fn open_struct(line: &[u8], room: &mut Room, s: State) -> State {
     if fine.why != fault::FINE {
         return fine;
     }
-    let name = owl_words::word(line, 1);
+    let name = blanks::word(line, 1);
     pack::put_name(Holder::Struct, room, state::SOURCE, s.structs, name);
     pack::put_name(Holder::Struct, room, state::TARGET, s.structs, name);
     opened(s, state::STRUCT, Holder::Struct)

@@ -4,6 +4,7 @@ use crate::layouts::fault;
 use crate::layouts::state;
 use crate::layouts::state::State;
 use caseline::Parsed;
+use caseline::blanks;
 
 // What is no number of two bytes.
 pub const NONE: usize = 65536;
@@ -11,7 +12,7 @@ pub const NONE: usize = 65536;
 pub fn number(line: &[u8], k: usize) -> usize
     ensures { λ r. ⌜ r ≤ 65536 ⌝ }
 {
-    match caseline::short(owl_words::word(line, k)) {
+    match caseline::short(blanks::word(line, k)) {
         Parsed::Is(n) => n % NONE,
         Parsed::Malformed => NONE,
     }
@@ -19,7 +20,7 @@ pub fn number(line: &[u8], k: usize) -> usize
 
 // Whether the line has so many words.
 pub fn counted(line: &[u8], expected: usize, s: State) -> State {
-    let n = owl_words::words(line);
+    let n = blanks::words(line);
     if n < expected {
         return state::bad(s, n, fault::TOO_FEW);
     }

@@ -22,9 +22,9 @@ use Rattle.dispatch.specs.declared.Upgraded.{Upgraded}
 use Rattle.dispatch.specs.declared.Upgraded.the-variants.{Done, Refused}
 use Rattle.dispatch.specs.declared.choice.Choice.the-variants.{Slot}
 use Rattle.rule.specs.Body.{ruleBody}
 use Rattle.demand.specs.Demand.{Planned}
 use Rattle.demand.proofs.Upgraded.{upgraded-by-rule}
-use Rattle.applied.specs.Holds.{Holds}
+use Rattle.demand.specs.Holds.{Holds}
 
 -- an answer that is no refusal: the test before it did not refuse
 passed : (t : Bool) (refusal : Refusal) (rest : Upgraded) {rtype size : ℕ} → cond t (Refused refusal) rest ≡ Done rtype size → (t ≡ false) × (rest ≡ Done rtype size)

@@ -2,8 +2,8 @@
 use Prim.Native.Nat.{_≤_}
 use borrow.Author.Needs.{needs}
 use lib.ListN.{length}
-use Rattle.owl_words.proofs.word.Statement.{statement}
-use Rattle.owl_words.proofs.word.Tie as tie
+use Rattle.caseline.proofs.blanks.word.Statement.{statement}
+use Rattle.caseline.proofs.blanks.word.Tie as tie
 
 abbrev Inv-loop : tie.InvT-loop
 Inv-loop line k from₀ left₀ from left = from ≤ length line

@@ -1,8 +1,8 @@
 -- A turn for each word of the list.
 use Prim.Native.Nat.{_-_, _≤_}
 use borrow.Author.Needs.{needs}
-use Rattle.owl_words.proofs.which.Statement.{statement}
-use Rattle.owl_words.proofs.which.Tie as tie
+use Rattle.caseline.proofs.blanks.which.Statement.{statement}
+use Rattle.caseline.proofs.blanks.which.Tie as tie
 
 abbrev Inv-loop : tie.InvT-loop
 Inv-loop list name n k₀ k = k ≤ n

@@ -2,8 +2,8 @@
 use Prim.Native.Nat.{_-_, _≤_}
 use borrow.Author.Needs.{needs}
 use lib.ListN.{length}
-use Rattle.owl_words.proofs.words.Statement.{statement}
-use Rattle.owl_words.proofs.words.Tie as tie
+use Rattle.caseline.proofs.blanks.words.Statement.{statement}
+use Rattle.caseline.proofs.blanks.words.Tie as tie
 
 abbrev Inv-loop : tie.InvT-loop
 Inv-loop line n₀ at₀ n at = (at ≤ length line) × (n ≤ at)

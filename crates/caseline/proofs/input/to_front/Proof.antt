@@ -3,8 +3,8 @@ use mathlib.Core.Path.{_≡_}
 use Prim.Native.Nat.{_-_, _≤_}
 use lib.ListN.{length}
 use borrow.Author.Needs.{needs}
-use Rattle.input.proofs.to_front.Statement.{statement}
-use Rattle.input.proofs.to_front.Tie as tie
+use Rattle.caseline.proofs.input.to_front.Statement.{statement}
+use Rattle.caseline.proofs.input.to_front.Tie as tie
 
 abbrev Inv-loop : tie.InvT-loop
 Inv-loop input₀ from to n₀ at₀ input n at = (n ≤ at) × (length input ≡ length input₀)

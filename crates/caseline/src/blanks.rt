@@ -47,7 +47,7 @@ fn next_word(s: &[u8], from: usize) -> usize
 
 // The line without its comment.
 pub fn content(line: &[u8]) -> &[u8] {
-    let end = caseline::find(line, 0, COMMENT);
+    let end = crate::find(line, 0, COMMENT);
     &line[0..end]
 }
 

@@ -29,10 +29,10 @@ use Rattle.planner.specs.declared.Planned.{Planned as Answer}
 use Rattle.planner.specs.declared.Planned.the-variants.{Made, NoRecord, Refused}
 use Rattle.planner.proofs.Passing.{header-fits, body-fits}
 use Rattle.rule.specs.Recut.{same}
 use Rattle.demand.specs.Demand.{Planned, withSteps}
 use Rattle.demand.proofs.Layouts.{planned-of-records}
 use Rattle.demand.proofs.Upgraded.{planned-valid}
-use Rattle.applied.specs.Holds.{Holds}
+use Rattle.demand.specs.Holds.{Holds}
 
 -- an answer that is no refusal: every test before it passed
 made-by : (t : Bool) (refusal : Refusal) (rest : Answer) → unless t refusal rest ≡ Made → (t ≡ true) × (rest ≡ Made)

@@ -1,1 +1,0 @@
-// Laws only: what the public calls leave of a target, by the field rule.
