@@ -4,24 +4,15 @@ ghost use Rattle.lent.specs.Scan.{every};
 ghost use Rattle.layout.specs.Layout.{heads};
 ghost use Rattle.layout.specs.Shape.{shapeOk};
 ghost use Rattle.field.specs.Field.{fieldsOf};
-ghost use Rattle.admission.specs.Admission.{given, admitTables, admitAll, admitOf, admitBoth};
-ghost use Rattle.admission.specs.Parts.{testOk, headPasses, layoutPasses};
+ghost use Rattle.admission_rules.specs.Admission.{given, admitTables, admitAll, admitOf, admitBoth};
+ghost use Rattle.admission_rules.specs.Parts.{testOk, headPasses, layoutPasses};
+use admission_rules::Admitted;
+use admission_rules::Test;
+use field::Holder;
 use layout::block;
-use layout::block::Holder;
 use layout::shape;
 use limits::refusal::Refusal;
-use table::Rule;
-
-pub enum Admitted {
-    Fine,
-    Refused(Refusal),
-}
-
-// What is asked of each table: one rule, or all of them in one pass.
-enum Test {
-    Each(Rule),
-    Tidy,
-}
+use table_rules::Rule;
 
 fn table_passes(test: Test, cat: &[u8], most: usize, t: &[u8]) -> bool
     ensures { λ r. ⌜ r ≡ testOk test (now (cat .entry)) most (fieldsOf (now (t .entry))) ⌝ }

@@ -3,7 +3,7 @@ ghost use mathlib.Core.Path.{_≡_};
 ghost use Prim.Native.Nat.{_≤_};
 ghost use lib.ListN.{length};
 ghost use Rattle.limits.specs.Limits.{maxName};
-ghost use Rattle.builders.specs.Cursor.{rowOf, slotOf};
+ghost use Rattle.cursor_rules.specs.Cursor.{rowOf, slotOf};
 use field::FieldDef;
 use lent::store;
 

@@ -5,10 +5,10 @@ ghost use lib.Dec.{leb};
 ghost use Prim.Native.Nat.{_+_, _*_, _/_, _≤_, _<_, min};
 ghost use lib.ListN.{length};
 ghost use Rattle.limits.specs.Limits.{maxBytes, maxFields, maxName};
-ghost use Rattle.builders.specs.Cursor.{alignUp, paddingField, building, outcome, push, padTo, gaps, roomIn, room, fits, moveTo, sizeOk, flagsAfter, laid, lay, place};
-use crate::FieldCursor;
-use crate::Placed;
+ghost use Rattle.cursor_rules.specs.Cursor.{alignUp, paddingField, building, outcome, push, padTo, gaps, roomIn, room, fits, moveTo, sizeOk, laid, lay, place};
 use crate::bytes;
+use cursor_rules::FieldCursor;
+use cursor_rules::Placed;
 use field::FieldDef;
 use lent::store;
 use limits::refusal::Refusal;
@@ -127,15 +127,6 @@ fn size_ok(cat: &[u8], f: FieldDef) -> bool
     (f.size != 0) & (field::is_array(cat, f) | ((width == 0) | (f.size == width)))
 }
 
-fn flags_after(cat: &[u8], c: FieldCursor, f: FieldDef) -> u8
-    ensures { λ r. ⌜ r ≡ flagsAfter (now (cat .entry)) c f ⌝ }
-{
-    if c.based & (catalogue::class_of(cat, f.type_id) != catalogue::PADDING) {
-        return f.flags | catalogue::extension_flag(cat);
-    }
-    f.flags
-}
-
 // The field where it comes to lie.
 fn laid_field(cat: &[u8], c: FieldCursor, align: usize, f: FieldDef) -> FieldDef
     requires { ⌜ (c .cursor ≤ maxBytes) × (align < 16) ⌝ }
@@ -146,7 +137,7 @@ fn laid_field(cat: &[u8], c: FieldCursor, align: usize, f: FieldDef) -> FieldDef
         offset: narrow(align_up(c.cursor, align)),
         size: f.size,
         type_id: f.type_id,
-        flags: flags_after(cat, c, f),
+        flags: cursor_rules::flags_after(cat, c, f),
         def_index: f.def_index,
         scale: f.scale,
         reserved: 0,

@@ -6,15 +6,15 @@ ghost use Rattle.limits.specs.Limits.{maxBytes};
 ghost use Rattle.catalogue.specs.Catalogue.{widthOf};
 ghost use Rattle.field.specs.Field.{fieldsOf};
 ghost use Rattle.layout.specs.Layout.{structAt};
-ghost use Rattle.builders.specs.Cursor.{building, outcome, alignUp};
-ghost use Rattle.calls.specs.Calls.{takesScalar, scaleOf, scalarOf, stringOf, likeOf, widest, timesOf, timesFlag, nestedSize, nestedOf, noted, notedIn, baseEnd, finishBaseOf, endedOf};
-use builders::FieldCursor;
-use builders::Placed;
-use builders::Times;
+ghost use Rattle.cursor_rules.specs.Cursor.{building, outcome, alignUp};
+ghost use Rattle.calls_rules.specs.Calls.{takesScalar, scaleOf, scalarOf, stringOf, likeOf, widest, timesOf, timesFlag, nestedSize, nestedOf, noted, notedIn, baseEnd, finishBaseOf, endedOf};
 use builders::placing;
+use cursor_rules::FieldCursor;
+use cursor_rules::Placed;
+use cursor_rules::Times;
 use field::FieldDef;
+use field::Holder;
 use layout::block;
-use layout::block::Holder;
 use limits::refusal::Refusal;
 
 // What the document gives a decimal.

@@ -1,6 +1,4 @@
-// The parts of a line of cases: words that tabs part, bytes in hex, numbers; and the answer that is put together. Where lines come from, and lines
-// that people write.
-pub mod blanks;
+// The parts of a line of cases: words that tabs part, bytes in hex, numbers; the answer that is put together, and where lines come from.
 pub mod input;
 pub mod put;
 
@@ -17,9 +15,6 @@ const TAB: u8 = b'\t';
 
 // Digits of the longest number: far from wrapping.
 const MOST_DIGITS: usize = 9;
-
-// No line is longer.
-const LONGEST: usize = 131072;
 
 // What is no digit.
 const NONE: u8 = 255;
@@ -51,7 +46,7 @@ fn past_tab(s: &[u8], from: usize) -> usize
 }
 
 // Where word k starts.
-fn start(line: &[u8], k: usize) -> usize
+pub fn start(line: &[u8], k: usize) -> usize
     ensures { λ r. ⌜ r ≤ length (now (line .entry)) ⌝ }
 {
     let mut from = 0;
@@ -144,22 +139,16 @@ pub fn hex(text: &[u8], out: &mut [u8]) -> Parsed {
 pub fn decode(line: &[u8], out: &mut [u8]) {
     let mut at = 0;
     while at < line.len() {
-        if LONGEST <= at {
+        if line.len() - at < 2 {
             return;
         }
-        let b = joined(digit(line[at]), digit(lent::byte_at(line, at + 1)));
-        put::byte(out, at / 2, b);
         if line[at] == TAB {
             at += 1;
         } else {
+            put::byte(out, at / 2, joined(digit(line[at]), digit(line[at + 1])));
             at += 2;
         }
     }
-}
-
-// The bytes of word k of a line that is decoded.
-pub fn bytes<'a>(line: &[u8], k: usize, decoded: &'a [u8]) -> &'a [u8] {
-    lent::part(decoded, start(line, k) / 2, word(line, k).len() / 2)
 }
 
 // ---- numbers
@@ -184,7 +173,7 @@ fn value(text: &[u8]) -> Parsed
         if 9 < d {
             return Parsed::Malformed;
         }
-        n = 10 * n + lent::wide8(d);
+        n = 10 * n + d as usize;
         at += 1;
     }
     Parsed::Is(n)
@@ -202,21 +191,4 @@ pub fn short(text: &[u8]) -> Parsed {
         }
         Parsed::Malformed => Parsed::Malformed,
     }
-}
-
-// ---- ids
-
-// The ids of two bytes each: as many as the bytes have, and as there is room for.
-pub fn ids(bytes: &[u8], ids: &mut [u16]) -> usize
-    ensures { λ r. ⌜ r ≤ length (now (ids .entry)) ⌝ }
-{
-    let mut n = 0;
-    while n < ids.len() {
-        if bytes.len() / 2 <= n {
-            return n;
-        }
-        ids[n] = lent::join(lent::byte_at(bytes, 2 * n), lent::byte_at(bytes, 2 * n + 1));
-        n += 1;
-    }
-    n
 }

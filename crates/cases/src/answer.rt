@@ -1,6 +1,6 @@
 // An answer, by value, and how it is put.
-use builders::FieldCursor;
 use caseline::put;
+use cursor_rules::FieldCursor;
 use field::FieldDef;
 use limits::refusal;
 use limits::refusal::Refusal;

@@ -17,7 +17,7 @@ use crate::texts;
 use crate::upgrades;
 use crate::verdicts;
 use crate::words;
-use builders::Placed;
+use cursor_rules::Placed;
 
 // Words that change nothing.
 fn read(k: usize, kept: &Kept, plans: &[u8]) -> Answer {

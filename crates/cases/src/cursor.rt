@@ -7,9 +7,9 @@ use crate::kept::Kept;
 use crate::kept::Made;
 use crate::kept::Slots;
 use crate::words;
-use builders::FieldCursor;
-use builders::Placed;
-use builders::Times;
+use cursor_rules::FieldCursor;
+use cursor_rules::Placed;
+use cursor_rules::Times;
 use tuppenceowl::building;
 
 // A field, of whose 16 bytes each call takes what it needs; the size tells how many stand in an array.
@@ -52,7 +52,7 @@ pub fn call(k: usize, kept: &Kept, rows: &mut Made, slots: &mut Slots) -> Placed
         words::FINISH_BASE => building::finish_base(cat, rows, slots, c),
         words::FINISH => {
             let mut ids = [0u16; 64];
-            let n = caseline::ids(given::bytes(kept, 1), &mut ids);
+            let n = given::ids(given::bytes(kept, 1), &mut ids);
             building::finish(cat, rows, slots, c, &ids[0..n])
         }
         _ => place(k, kept, cat, c, rows, slots),

@@ -5,9 +5,9 @@ ghost use lib.ListN.{length};
 use crate::answer::Answer;
 use crate::given;
 use crate::words;
-use builders::FieldCursor;
 use caseline::Parsed;
-use layout::block::Holder;
+use cursor_rules::FieldCursor;
+use field::Holder;
 use tuppenceowl::building;
 
 // The bytes of the line's words, those of a word in hex at half of its place in the line; the numbers of the field cursor;

@@ -19,7 +19,7 @@ fn upgraded(k: usize, kept: &Kept, plans: &[u8], target: &mut [u8]) -> Upgraded 
     }
     let slots = lent::part(plans, 0, given::number(kept, 1));
     let mut ids = [0u16; 64];
-    let n = caseline::ids(given::bytes(kept, 2), &mut ids);
+    let n = given::ids(given::bytes(kept, 2), &mut ids);
     let rtype = given::short(kept, 3);
     let from = given::number(kept, 4);
     let to = given::number(kept, 5);

@@ -5,9 +5,9 @@ use mathlib.Core.List.{List}
 use Prim.Native.Nat.{ℕ}
 use Rattle.lent.specs.Scan.{gather, every}
 use Rattle.crc64.specs.Avro.{negated, turn, turns, fpTable, printByte, printFrom, fingerprint}
-use Rattle.order.specs.Order.{sortBy}
-use Rattle.hash.specs.Walk.{walkFields, walkTable}
-use Rattle.hash.specs.Hash.{hashOf}
+use Rattle.field.specs.Order.{sortBy}
+use Rattle.hash_rules.specs.Walk.{walkFields, walkTable}
+use Rattle.hash_rules.specs.Hash.{hashOf}
 use Rattle.step.specs.Step.{stepsOk}
 use Rattle.slot.specs.Plan.{planOk}
 use Rattle.mapping.specs.Mapping.{half, span, integerOf, least, largest, numberOf, mapped, mapInt}

@@ -7,9 +7,9 @@ use lib.ListN.{take, drop, replicate}
 use Rattle.limits.specs.Refusal.{numberOf}
 use Rattle.crc64.specs.Avro.{fingerprint}
 use Rattle.field.specs.declared.FieldDef.{FieldDef}
-use Rattle.hash.specs.Hash.{hashOf}
-use Rattle.hash.specs.declared.Hashed.{Hashed}
-use Rattle.hash.specs.declared.Hashed.the-variants.{Sum, Refused}
+use Rattle.hash_rules.specs.Hash.{hashOf}
+use Rattle.hash_rules.specs.declared.Hashed.{Hashed}
+use Rattle.hash_rules.specs.declared.Hashed.the-variants.{Sum, Refused}
 use Rattle.step.specs.Step.{copy, int}
 use Rattle.slot.specs.Plan.{Plan}
 use Rattle.mapping.specs.Mapping.{mapInt}

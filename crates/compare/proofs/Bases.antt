@@ -8,7 +8,7 @@ use Rattle.lent.specs.Scan.{every, some}
 use Rattle.field.specs.Field.{fieldsOf, isPadding}
 use Rattle.field.specs.declared.FieldDef.{FieldDef}
 use Rattle.layout.specs.Layout.{RecordLayout}
-use Rattle.equal.specs.Equal.{fieldEq}
+use Rattle.equal_rules.specs.Equal.{fieldEq}
 use Rattle.compare.specs.Compare.{met, baseCompatible}
 
 module _ (cat s : List ℕ) (r : RecordLayout) (c : List ℕ) (q : RecordLayout) where

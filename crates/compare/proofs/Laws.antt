@@ -12,7 +12,7 @@ use Rattle.field.specs.declared.FieldDef.{FieldDef}
 use Rattle.layout.specs.Layout.{RecordLayout, recordAt}
 use Rattle.layout.specs.Find.{firstOf}
 use Rattle.layout.specs.declared.find.Place.the-variants.{At}
-use Rattle.equal.specs.Equal.{fieldEq}
+use Rattle.equal_rules.specs.Equal.{fieldEq}
 use Rattle.compare.specs.Compare.{met, baseCompatible, matches, verdictOf}
 use Rattle.compare.specs.declared.answer.Verdict.the-variants.{Compiled}
 

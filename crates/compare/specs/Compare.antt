@@ -8,7 +8,7 @@ use Rattle.field.specs.Field.{fieldsOf, isPadding}
 use Rattle.field.specs.declared.FieldDef.{FieldDef}
 use Rattle.layout.specs.Layout.{RecordLayout, recordAt}
 use Rattle.layout.specs.Find.{firstOf, atPlace}
-use Rattle.equal.specs.Equal.{fieldEq}
+use Rattle.equal_rules.specs.Equal.{fieldEq}
 use Rattle.compare.specs.declared.answer.Verdict.{Verdict}
 use Rattle.compare.specs.declared.answer.Verdict.the-variants.{Compiled, Dynamic}
 

@@ -10,8 +10,8 @@ ghost use Rattle.layout.specs.Layout.{recordAt, FewFields};
 ghost use Rattle.compare.specs.Compare.{baseCompatible, verdictOf};
 ghost use Rattle.compare.specs.Parts.{Skips};
 use crate::answer::Verdict;
+use field::Holder;
 use layout::block;
-use layout::block::Holder;
 use layout::find;
 use layout::find::Place;
 

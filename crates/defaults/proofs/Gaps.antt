@@ -12,8 +12,8 @@ use Rattle.lent.specs.Scan.{every, some, first, places}
 use Rattle.lent.proofs.Bytes.{number-zero}
 use Rattle.lent.proofs.Scan.{both, passes, stops}
 use Rattle.field.specs.declared.FieldDef.{FieldDef}
-use Rattle.field.specs.Field.{fieldAt}
-use Rattle.plan.specs.Rule.{counts, isMarked, wantAt}
+use Rattle.field.specs.Field.{fieldAt, counts}
+use Rattle.plan_rules.specs.Rule.{isMarked, wantAt}
 use Rattle.defaults.specs.Defaults.{holds, covered, gapsZero, markHolds, coverEnd}
 
 or-true : (b : Bool) → (b || true) ≡ true

@@ -8,7 +8,8 @@ use Rattle.limits.specs.Limits.{maxHeader}
 use Rattle.lent.specs.Bytes.{byteAt}
 use Rattle.lent.specs.Scan.{every, some, first, places}
 use Rattle.field.specs.declared.FieldDef.{FieldDef}
-use Rattle.plan.specs.Rule.{counts, isSigned, Want}
+use Rattle.field.specs.Field.{counts, isSigned}
+use Rattle.plan_rules.specs.Rule.{Want}
 
 -- ---- refusal 7
 

@@ -6,7 +6,7 @@ ghost use lib.ListN.{length};
 ghost use Rattle.limits.specs.Limits.{maxBytes, maxFields};
 ghost use Rattle.lent.specs.Scan.{every};
 ghost use Rattle.field.specs.Field.{fieldsOf};
-ghost use Rattle.plan.specs.Rule.{wantAt, wants};
+ghost use Rattle.plan_rules.specs.Rule.{wantAt, wants};
 ghost use Rattle.defaults.specs.Defaults.{startsAfter, headerOk, gapsZero, isLargest, markHolds, defaultsOk, coverEnd};
 use field::FieldDef;
 use lent::words;
@@ -15,7 +15,7 @@ use plan::rule;
 fn starts_after(cat: &[u8], header: usize, f: FieldDef) -> bool
     ensures { λ r. ⌜ r ≡ startsAfter (now (cat .entry)) header f ⌝ }
 {
-    !rule::counts(cat, f) | (header <= lent::wide16(f.offset))
+    !field::counts(cat, f) | (header <= lent::wide16(f.offset))
 }
 
 fn all_start_after(cat: &[u8], header: usize, table: &[u8]) -> bool
@@ -54,7 +54,7 @@ fn cover_end(cat: &[u8], table: &[u8], i: usize) -> usize
         let f = field::field_in(table, at);
         let start = lent::wide16(f.offset);
         let end = start + lent::wide16(f.size);
-        if rule::counts(cat, f) & ((start <= i) & (i < end)) {
+        if field::counts(cat, f) & ((start <= i) & (i < end)) {
             return end;
         }
         at += field::SIZE;
@@ -132,9 +132,9 @@ fn mark_holds(cat: &[u8], header: usize, body: &[u8], marks: &[u8], table: &[u8]
         return true;
     }
     let f = field::field_at(table, at);
-    if rule::counts(cat, f) & rule::is_marked(cat, marks, at / field::SIZE, f) {
+    if field::counts(cat, f) & rule::is_marked(cat, marks, at / field::SIZE, f) {
         let from = past_header(f.offset, header);
-        return is_largest(body, from, lent::wide16(f.size), rule::is_signed(cat, f));
+        return is_largest(body, from, lent::wide16(f.size), field::is_signed(cat, f));
     }
     true
 }

@@ -11,20 +11,20 @@ use Rattle.limits.specs.Limits.{maxBytes}
 use Rattle.lent.specs.Scan.{every}
 use Rattle.lent.proofs.Scan.{both}
 use Rattle.catalogue.specs.Catalogue.{catalogueOk}
-use Rattle.field.specs.Field.{endOf}
+use Rattle.field.specs.Field.{endOf, counts}
 use Rattle.field.specs.declared.FieldDef.{FieldDef}
-use Rattle.order.specs.Order.{insertBy, sortBy, offsetOf, byOffset}
-use Rattle.order.proofs.Kept.{every-sorted, length-sorted}
-use Rattle.order.proofs.Mapped.{sort-map}
-use Rattle.table.specs.Table.{inBounds, clearOf, apart}
-use Rattle.table.specs.Parts.{chain}
+use Rattle.field.specs.Order.{insertBy, sortBy, offsetOf, byOffset}
+use Rattle.field.proofs.Kept.{every-sorted, length-sorted}
+use Rattle.field.proofs.Mapped.{sort-map}
+use Rattle.table_rules.specs.Table.{inBounds, clearOf, apart}
+use Rattle.table_rules.specs.Parts.{chain}
 use Rattle.step.specs.Step.{copy, sourceOf, takes, targetOf, endOf as stepEnd, stepOk, stepsOk}
 use Rattle.step.specs.declared.Step.{Step}
-use Rattle.plan.specs.Rule.{Want, counts, stepOf}
+use Rattle.plan_rules.specs.Rule.{Want, stepOf}
 use Rattle.coalesce.specs.Joins.{joins, joined, joinFrom, joinAll}
 use Rattle.steps.specs.Steps.{before, stepsOf, offsetOfWant, inTargetOrder, plannedSteps}
-use Rattle.plan.specs.declared.rule.Carried.{Carried}
-use Rattle.plan.specs.declared.rule.Carried.the-variants.{By, Default}
+use Rattle.plan_rules.specs.declared.Carried.{Carried}
+use Rattle.plan_rules.specs.declared.Carried.the-variants.{By, Default}
 use Rattle.rule.specs.Body.{defs}
 use Rattle.rule.proofs.Stores.{first-of, of-first}
 use Rattle.rule.proofs.Cuts.{joins-are}

@@ -15,7 +15,7 @@ use Rattle.field.specs.Field.{fieldsOf}
 use Rattle.slot.specs.Plan.{Plan}
 use Rattle.slot.specs.Slot.{sizeIn, planIn, slotOk}
 use Rattle.slot.proofs.Kept.{kept-slot}
-use Rattle.plan.specs.Rule.{wants}
+use Rattle.plan_rules.specs.Rule.{wants}
 use Rattle.interpreter.specs.Run.{upgraded}
 use Rattle.dispatch.specs.Dispatch.{badLength, recordIn, plannedOf, appliedOf, afterApply, slotAt, firstPlan, upgradedOf, afterUpgrade}
 use Rattle.dispatch.specs.declared.Upgraded.{Upgraded}

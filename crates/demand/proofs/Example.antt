@@ -13,12 +13,12 @@ use Rattle.lent.specs.Scan.{every, gather, first, tally, highest}
 use Rattle.lent.proofs.Scan.{both}
 use Rattle.catalogue.specs.Catalogue.{catalogueOk}
 use Rattle.field.specs.Field.{fieldAt, fieldsOf}
-use Rattle.order.specs.Order.{insertBy, sortBy}
-use Rattle.table.specs.Table.{tableOk, apart}
-use Rattle.admission.proofs.When.{by-rule}
+use Rattle.field.specs.Order.{insertBy, sortBy}
+use Rattle.table_rules.specs.Table.{tableOk, apart}
+use Rattle.admission_rules.proofs.When.{by-rule}
 use Rattle.step.specs.Step.{copy, int}
 use Rattle.slot.specs.Plan.{Plan, isByte}
-use Rattle.plan.specs.Rule.{stepFor, stepOf, wants}
+use Rattle.plan_rules.specs.Rule.{stepFor, stepOf, wants}
 use Rattle.coalesce.specs.Joins.{joins, joinFrom, joinAll}
 use Rattle.steps.specs.Steps.{stepsOf, plannedSteps}
 use Rattle.mapping.specs.Mapping.{half, span, integerOf, least, largest, numberOf, mapped, mapInt}

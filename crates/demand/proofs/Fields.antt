@@ -13,13 +13,13 @@ use Rattle.lent.specs.Bytes.{byteAt, numberAt, window}
 use Rattle.lent.specs.Scan.{every}
 use Rattle.lent.proofs.Scan.{both}
 use Rattle.catalogue.specs.Catalogue.{isWidth}
-use Rattle.field.specs.Field.{fieldsOf, endOf}
-use Rattle.table.proofs.Bytes.{Covers}
+use Rattle.field.specs.Field.{fieldsOf, endOf, counts}
+use Rattle.table_rules.proofs.Bytes.{Covers}
 use Rattle.step.specs.Step.{copy, int, sourceOf, takes, gives, stepOk, widthsOk}
 use Rattle.step.specs.declared.Step.{Step}
 use Rattle.slot.specs.Plan.{Plan}
-use Rattle.plan.specs.Rule.{Want, counts, wants, stepOf}
-use Rattle.plan.specs.declared.rule.Carried.the-variants.{By}
+use Rattle.plan_rules.specs.Rule.{Want, wants, stepOf}
+use Rattle.plan_rules.specs.declared.Carried.the-variants.{By}
 use Rattle.mapping.specs.Mapping.{integerOf, mapped, mapInt}
 use Rattle.interpreter.specs.Run.{carried, upgraded}
 use Rattle.rule.specs.Body.{ruleByte, ruleBody, valueOf}

@@ -13,14 +13,14 @@ use Rattle.field.specs.Field.{fieldsOf}
 use Rattle.layout.specs.Layout.{startAt, lengthAt, recordAt, recordHead, recordOf, countOf}
 use Rattle.record_size.specs.Size.{recordSize}
 use Rattle.layout.specs.Shape.{shapeOk}
-use Rattle.layout.specs.declared.block.Holder.the-variants.{Record}
+use Rattle.field.specs.declared.Holder.the-variants.{Record}
 use Rattle.layout.proofs.Shapes.{base-in-record, few-in-record}
-use Rattle.admission.specs.Admission.{layoutOk}
-use Rattle.admission.proofs.When.{Passed}
-use Rattle.admission.proofs.Records.{record-keeps}
+use Rattle.admission_rules.specs.Admission.{layoutOk}
+use Rattle.admission_rules.proofs.When.{Passed}
+use Rattle.admission_rules.proofs.Records.{record-keeps}
 use Rattle.slot.specs.Plan.{Plan, rtypesOk}
 use Rattle.slot.proofs.Checking.{bytes-window}
-use Rattle.plan.specs.Rule.{wants}
+use Rattle.plan_rules.specs.Rule.{wants}
 use Rattle.steps.specs.Steps.{plannedSteps}
 use Rattle.defaults.specs.Defaults.{startsAfter}
 use Rattle.demand.specs.Demand.{Admitted, Planned}

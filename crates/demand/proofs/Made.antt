@@ -13,16 +13,16 @@ use Rattle.lent.proofs.Scan.{both}
 use Rattle.field.specs.Field.{fieldsOf}
 use Rattle.layout.specs.Layout.{RecordLayout, recordAt, recordHead, recordOf, countOf}
 use Rattle.record_size.specs.Size.{recordSize}
-use Rattle.layout.specs.declared.block.Holder.the-variants.{Record}
-use Rattle.admission.specs.Admission.{admitBoth, orRefused}
-use Rattle.admission.specs.declared.Admitted.{Admitted}
-use Rattle.admission.specs.declared.Admitted.the-variants.{Fine, Refused as Unadmitted}
-use Rattle.admission.proofs.When.{admitted}
+use Rattle.field.specs.declared.Holder.the-variants.{Record}
+use Rattle.admission_rules.specs.Admission.{admitBoth, orRefused}
+use Rattle.admission_rules.specs.declared.Admitted.{Admitted}
+use Rattle.admission_rules.specs.declared.Admitted.the-variants.{Fine, Refused as Unadmitted}
+use Rattle.admission_rules.proofs.When.{admitted}
 use Rattle.step.specs.declared.Step.{Step}
 use Rattle.slot.specs.Plan.{Plan, rtypesOk}
 use Rattle.slot.specs.Slot.{slotOf}
 use Rattle.slot.proofs.Unpacked.{plan-in}
-use Rattle.plan.specs.Rule.{wants}
+use Rattle.plan_rules.specs.Rule.{wants}
 use Rattle.defaults.specs.Defaults.{headerOk, defaultsOk}
 use Rattle.planner.specs.Planner.{planBetween, unless, betweenOf, plannedOf}
 use Rattle.planner.specs.declared.Planned.{Planned as Answer}

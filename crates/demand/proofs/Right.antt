@@ -10,12 +10,13 @@ use Rattle.limits.specs.Limits.{maxBytes}
 use Rattle.lent.specs.Scan.{every}
 use Rattle.lent.proofs.Scan.{both}
 use Rattle.catalogue.specs.Catalogue.{unsigned, signed, classOf, widthOf, isWidth, catalogueOk}
-use Rattle.field.specs.Field.{endOf, isArray, isInteger}
+use Rattle.field.specs.Field.{endOf, isArray, isInteger, counts, isString, isSigned}
 use Rattle.field.specs.declared.FieldDef.{FieldDef}
-use Rattle.table.specs.Table.{inBounds, widthOk}
+use Rattle.table_rules.specs.Table.{inBounds, widthOk}
 use Rattle.step.specs.Step.{copy, int, stepOk}
 use Rattle.step.specs.declared.Step.{Step}
-use Rattle.plan.specs.Rule.{Want, counts, sameScale, sameKind, apart, isString, isSigned, sameSign, sameId, stepFor, stepOf}
+use Rattle.field.specs.Pair.{sameScale, sameKind, apart, sameSign}
+use Rattle.plan_rules.specs.Rule.{Want, sameId, stepFor, stepOf}
 use Rattle.rule.proofs.Planned.{If, if-cond, if-first}
 use Rattle.catalogue.proofs.Valid.{integer-width}
 use Rattle.demand.proofs.Types.{one-type}

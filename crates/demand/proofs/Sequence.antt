@@ -10,12 +10,13 @@ use lib.ListN.{length}
 use Rattle.lent.specs.Bytes.{numberAt}
 use Rattle.lent.specs.Scan.{every, first}
 use Rattle.lent.proofs.Scan.{both}
-use Rattle.field.specs.Field.{fieldsOf, endOf, isInteger, byteOf}
+use Rattle.field.specs.Field.{fieldsOf, endOf, isInteger, byteOf, counts}
 use Rattle.field.specs.declared.FieldDef.{FieldDef}
 use Rattle.step.specs.Step.{copy}
 use Rattle.slot.specs.Plan.{Plan}
-use Rattle.plan.specs.Rule.{Want, counts, sameKind, sameId, wants, stepFor, stepOf}
-use Rattle.plan.specs.declared.rule.Carried.the-variants.{By, Default}
+use Rattle.field.specs.Pair.{sameKind}
+use Rattle.plan_rules.specs.Rule.{Want, sameId, wants, stepFor, stepOf}
+use Rattle.plan_rules.specs.declared.Carried.the-variants.{By, Default}
 use Rattle.interpreter.specs.Run.{upgraded}
 use Rattle.rule.proofs.Values.{every-at}
 use Rattle.demand.specs.Demand.{Planned, Recuts, Sequence, firstFor}

@@ -12,10 +12,10 @@ use Rattle.lent.specs.Bytes.{byteAt, Bytes}
 use Rattle.lent.specs.Scan.{gather, every, highest}
 use Rattle.field.specs.Field.{fieldAt, fieldsOf, endOf}
 use Rattle.field.specs.declared.FieldDef.{FieldDef}
-use Rattle.table.specs.Table.{inBounds, widthOk}
-use Rattle.table.specs.declared.Rule.the-variants.{Bounds, Width}
+use Rattle.table_rules.specs.Table.{inBounds, widthOk}
+use Rattle.table_rules.specs.declared.Rule.the-variants.{Bounds, Width}
 use Rattle.record_size.specs.Size.{lastEnd}
-use Rattle.plan.specs.Rule.{wantAt, wants}
+use Rattle.plan_rules.specs.Rule.{wantAt, wants}
 use Rattle.rule.specs.Body.{defs}
 use Rattle.defaults.specs.Defaults.{startsAfter}
 use Rattle.demand.specs.Demand.{Admitted}

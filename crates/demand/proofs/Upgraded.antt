@@ -12,16 +12,16 @@ use Rattle.limits.specs.Limits.{maxBytes, maxHeader, maxSteps}
 use Rattle.lent.specs.Bytes.{byteAt}
 use Rattle.lent.specs.Scan.{every}
 use Rattle.field.specs.Field.{fieldsOf}
-use Rattle.table.specs.Table.{apart}
-use Rattle.table.specs.declared.Rule.the-variants.{Bounds, Apart}
+use Rattle.table_rules.specs.Table.{apart}
+use Rattle.table_rules.specs.declared.Rule.the-variants.{Bounds, Apart}
 use Rattle.record_size.specs.Size.{lastEnd}
-use Rattle.admission.proofs.Records.{last-inside}
+use Rattle.admission.proofs.Sizes.{last-inside}
 use Rattle.step.specs.Step.{stepsOk}
 use Rattle.step.specs.declared.Step.{Step}
 use Rattle.slot.specs.Plan.{Plan, planOk}
 use Rattle.slot.proofs.Kept.{kept}
 use Rattle.slot.proofs.Checking.{bytes-every}
-use Rattle.plan.specs.Rule.{wants}
+use Rattle.plan_rules.specs.Rule.{wants}
 use Rattle.steps.specs.Steps.{plannedSteps}
 use Rattle.interpreter.specs.Run.{run, upgraded}
 use Rattle.rule.specs.Bytewise.{runByte, bytewise}

@@ -11,12 +11,12 @@ use Rattle.lent.specs.Scan.{every, first}
 use Rattle.catalogue.specs.Catalogue.{unsigned, classOf, catalogueOk}
 use Rattle.field.specs.Field.{fieldsOf, isArray}
 use Rattle.field.specs.declared.FieldDef.{FieldDef}
-use Rattle.table.specs.Table.{tableOk}
-use Rattle.table.specs.declared.Rule.{Rule}
+use Rattle.table_rules.specs.Table.{tableOk}
+use Rattle.table_rules.specs.declared.Rule.{Rule}
 use Rattle.record_size.specs.Size.{lastEnd}
 use Rattle.step.specs.declared.Step.{Step}
 use Rattle.slot.specs.Plan.{Plan, rtypesOk, planOk}
-use Rattle.plan.specs.Rule.{wants, sameId}
+use Rattle.plan_rules.specs.Rule.{wants, sameId}
 use Rattle.steps.specs.Steps.{plannedSteps}
 use Rattle.defaults.specs.Defaults.{startsAfter}
 use Rattle.rule.specs.Recut.{Recut}

@@ -5,10 +5,10 @@ ghost use lib.ListN.{length};
 ghost use Rattle.limits.specs.Limits.{maxStructFields};
 ghost use Rattle.field.specs.Field.{fieldAt};
 ghost use Rattle.layout.specs.Layout.{structAt, FewFields};
-ghost use Rattle.equal.specs.Equal.{eqExceptDefIndex, structEq, namedEq, fieldEq};
+ghost use Rattle.equal_rules.specs.Equal.{eqExceptDefIndex, structEq, namedEq, fieldEq};
 use field::FieldDef;
+use field::Holder;
 use layout::block;
-use layout::block::Holder;
 
 fn eq_except_def_index(a: FieldDef, b: FieldDef) -> bool
     ensures { λ r. ⌜ r ≡ eqExceptDefIndex a b ⌝ }
@@ -34,9 +34,9 @@ fn struct_eq(s: &[u8], h: usize, c: &[u8], g: usize) -> bool
         return false;
     }
     let mut a = [0u16; limits::MAX_STRUCT_FIELDS];
-    order::by_offset(haves, n, &mut a);
+    field::order::by_offset(haves, n, &mut a);
     let mut b = [0u16; limits::MAX_STRUCT_FIELDS];
-    order::by_offset(wants, n, &mut b);
+    field::order::by_offset(wants, n, &mut b);
     let mut k = 0;
     while k < n {
         let have = field::field_at(haves, lent::wide16(a[k]));

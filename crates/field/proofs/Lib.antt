@@ -1,1 +1,5 @@
+pub mod Kept
+pub mod Mapped
+pub mod Placed
+pub mod Placing
 pub mod Scale

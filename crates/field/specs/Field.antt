@@ -10,7 +10,7 @@ use mir.Syntax.{w8}
 use mir.Val.{toZ, ofZ}
 use Rattle.lent.specs.Bytes.{byteAt, numberAt}
 use Rattle.lent.specs.Scan.{gather}
-use Rattle.catalogue.specs.Catalogue.{classOf, arrayFlag, unsigned, signed, struct, padding}
+use Rattle.catalogue.specs.Catalogue.{classOf, arrayFlag, unsigned, signed, struct, padding, headerId, string}
 use Rattle.field.specs.declared.FieldDef.{FieldDef}
 
 -- the number that a byte holds in two's complement
@@ -58,3 +58,13 @@ isStruct cat f = eqb (classOf cat (f .«type_id»)) struct
 
 abbrev pub isPadding : List ℕ → FieldDef → Bool
 isPadding cat f = eqb (classOf cat (f .«type_id»)) padding
+
+-- neither padding nor the header
+abbrev pub counts : List ℕ → FieldDef → Bool
+counts cat f = not (isPadding cat f) && not (eqb (f .«field_id») (headerId cat))
+
+abbrev pub isString : List ℕ → FieldDef → Bool
+isString cat f = eqb (classOf cat (f .«type_id»)) string
+
+abbrev pub isSigned : List ℕ → FieldDef → Bool
+isSigned cat f = eqb (classOf cat (f .«type_id»)) signed

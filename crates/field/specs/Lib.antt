@@ -1,1 +1,3 @@
 pub mod Field
+pub mod Order
+pub mod Pair

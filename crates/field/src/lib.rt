@@ -1,9 +1,12 @@
 // FieldDef of dbn's layout.rs: a field of a table, decoded from its 16 bytes.
+pub mod order;
+pub mod pair;
+
 ghost use mathlib.Core.Path.{_≡_};
 ghost use Prim.Native.Nat.{_+_, _*_, _<_, _≤_};
 ghost use lib.ListN.{length};
 ghost use Rattle.lent.specs.Bytes.{numberAt};
-ghost use Rattle.field.specs.Field.{signedByte, byteOf, fieldAt, endOf, isInteger, isArray, isPlainInteger, isStruct, isPadding};
+ghost use Rattle.field.specs.Field.{signedByte, byteOf, fieldAt, endOf, isInteger, isArray, isPlainInteger, isStruct, isPadding, counts, isString, isSigned};
 
 // Bytes of a field in its table.
 pub const SIZE: usize = 16;
@@ -18,6 +21,12 @@ pub struct FieldDef {
     pub scale: i8,
     // The number of the five last bytes, which an admitted table has at zero.
     pub reserved: usize,
+}
+
+// What a table of fields belongs to.
+pub enum Holder {
+    Record,
+    Struct,
 }
 
 fn reserved_in(t: &[u8], at: usize) -> usize
@@ -128,4 +137,22 @@ pub fn is_padding(cat: &[u8], f: FieldDef) -> bool
     ensures { λ r. ⌜ r ≡ isPadding (now (cat .entry)) f ⌝ }
 {
     catalogue::class_of(cat, f.type_id) == catalogue::PADDING
+}
+
+pub fn counts(cat: &[u8], f: FieldDef) -> bool
+    ensures { λ r. ⌜ r ≡ counts (now (cat .entry)) f ⌝ }
+{
+    !is_padding(cat, f) & !(f.field_id == catalogue::header_id(cat))
+}
+
+pub fn is_string(cat: &[u8], f: FieldDef) -> bool
+    ensures { λ r. ⌜ r ≡ isString (now (cat .entry)) f ⌝ }
+{
+    catalogue::class_of(cat, f.type_id) == catalogue::STRING
+}
+
+pub fn is_signed(cat: &[u8], f: FieldDef) -> bool
+    ensures { λ r. ⌜ r ≡ isSigned (now (cat .entry)) f ⌝ }
+{
+    catalogue::class_of(cat, f.type_id) == catalogue::SIGNED
 }

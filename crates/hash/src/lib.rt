@@ -1,73 +1,22 @@
 // layout_hash of dbn's hash.rs, with levels and a budget of visits: fields in offset order at every level.
 ghost use mathlib.Core.Path.{_≡_};
-ghost use Prim.Native.Nat.{_+_, _*_, _<_, _≤_};
+ghost use Prim.Native.Nat.{_*_, _<_, _≤_};
 ghost use lib.ListN.{length};
 ghost use Rattle.limits.specs.Limits.{maxFields};
-ghost use Rattle.lent.specs.Bytes.{bytesOf};
 ghost use Rattle.crc64.specs.Sum.{digitTable, bytesStep};
 ghost use Rattle.field.specs.Field.{fieldsOf};
-ghost use Rattle.hash.specs.Walk.{namesStruct, walkField, walkTable};
-ghost use Rattle.hash.specs.Hash.{hashOf};
-ghost use Rattle.hash.specs.Parts.{visitOf, near, told};
+ghost use Rattle.hash_rules.specs.Walk.{walkField, walkTable};
+ghost use Rattle.hash_rules.specs.Hash.{hashOf};
+ghost use Rattle.hash_rules.specs.Parts.{told};
 ghost use Rattle.layout.specs.Layout.{FewFields};
 use crc64::Crc64;
 use crc64::digitwise;
 use field::FieldDef;
+use field::Holder;
+use hash_rules::Hashed;
+use hash_rules::Visit;
 use layout::block;
-use layout::block::Holder;
 use limits::refusal::Refusal;
-
-pub enum Hashed {
-    // The sum and the visits used.
-    Sum(u64, usize),
-    Refused(Refusal),
-}
-
-// What a field asks for: the walk goes on, or enters the struct whose head is named, or the budget is used up.
-enum Visit {
-    On(u64, usize),
-    Enter(u64, usize, usize),
-    Over,
-}
-
-fn names_struct(cat: &[u8], l: &[u8], f: FieldDef) -> bool
-    ensures { λ r. ⌜ r ≡ namesStruct (now (cat .entry)) (now (l .entry)) f ⌝ }
-{
-    field::is_struct(cat, f) & block::has_struct(l, f)
-}
-
-// A struct's size, which goes in before its fields: two bytes.
-fn size_sum(t: &[u64; 160], start: u64, size: usize) -> u64
-    requires { ⌜ now t ≡ digitTable ⌝ }
-    ensures { λ r. ⌜ r ≡ bytesStep start (bytesOf 2 size) ⌝ }
-{
-    digitwise::step_number(t, start, (size % 65536) as u64, 2)
-}
-
-// All of a field's walk that does not enter anything.
-fn visited(
-    cat: &[u8],
-    l: &[u8],
-    t: &[u64; 160],
-    budget: usize,
-    f: FieldDef,
-    fp: u64,
-    visits: usize,
-) -> Visit
-    requires { ⌜ now t ≡ digitTable ⌝ }
-    ensures { λ r. ⌜ (r ≡ visitOf (now (cat .entry)) (now (l .entry)) budget f fp visits) × near r ⌝ }
-{
-    if budget <= visits {
-        return Visit::Over;
-    }
-    let sum = feed::field_sum(t, fp, f);
-    if !names_struct(cat, l, f) {
-        return Visit::On(sum, visits + 1);
-    }
-    let head = block::struct_head(l, f.def_index);
-    let size = block::struct_size(l, head);
-    Visit::Enter(size_sum(t, sum, size), visits + 1, head)
-}
 
 // A field is hashed by hashing its struct: so many levels may be entered.
 fn hash_field(
@@ -83,7 +32,7 @@ fn hash_field(
     requires { ⌜ (now t ≡ digitTable) × FewFields (now l) × (levels < 1024) ⌝ }
     ensures { λ r. ⌜ r ≡ told (walkField bytesStep (now (cat .entry)) (now (l .entry)) budget (walkTable bytesStep (now (cat .entry)) (now (l .entry)) budget levels) f fp visits) ⌝ }
 {
-    match visited(cat, l, t, budget, f, fp, visits) {
+    match hash_rules::visited(cat, l, t, budget, f, fp, visits) {
         Visit::On(sum, used) => Hashed::Sum(sum, used),
         Visit::Enter(sum, used, head) => {
             let table = block::table_at(Holder::Struct, l, head);
@@ -112,7 +61,7 @@ fn hash_table(
     }
     let n = table.len() / field::SIZE;
     let mut order = [0u16; limits::MAX_FIELDS];
-    order::by_offset(table, n, &mut order);
+    field::order::by_offset(table, n, &mut order);
     let mut fp = start;
     let mut visits = used;
     let mut k = 0;

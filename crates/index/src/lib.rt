@@ -6,17 +6,13 @@ ghost use mathlib.Core.Bool.{cond};
 ghost use Rattle.lent.specs.Scan.{last, alike};
 ghost use Rattle.field.specs.Field.{fieldsOf};
 ghost use Rattle.layout.specs.Layout.{nameAt, recordAt};
-ghost use Rattle.index.specs.Index.{fieldsIfOf, hasId, byId, nameIn, byName};
+ghost use Rattle.index_rules.specs.Index.{fieldsIfOf, hasId, byId, nameIn, byName};
 use field::FieldDef;
+use field::Holder;
+use index_rules::Lookup;
 use layout::block;
-use layout::block::Holder;
 use layout::find;
 use layout::find::Place;
-
-pub enum Lookup {
-    Def(FieldDef),
-    Missing,
-}
 
 // The field if it has the id and isn't padding, else what was found before.
 fn here_or(cat: &[u8], f: FieldDef, id: u16, before: Lookup) -> Lookup

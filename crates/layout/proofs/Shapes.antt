@@ -14,7 +14,7 @@ use Rattle.lent.proofs.Bytes.{part-length}
 use Rattle.lent.proofs.Scan.{both, nth}
 use Rattle.layout.specs.Layout.{startAt, lengthAt, recordAt, recordHead, recordOf, structAt, countOf, headsFrom, heads, FewFields}
 use Rattle.layout.specs.Shape.{nameOk, partOk, tableShape, namesShape, recordShape, structShape, headShape, countsOk, shapeOk}
-use Rattle.layout.specs.declared.block.Holder.the-variants.{Record, Struct}
+use Rattle.field.specs.declared.Holder.the-variants.{Record, Struct}
 
 few : (l : List ℕ) (at most : ℕ) → tableShape l at most ≡ true → lengthAt l at ≤ 16 * most
 few l at most e =

@@ -5,7 +5,7 @@ use mathlib.Core.List.{List}
 use lib.Dec.{eqb}
 use Rattle.lent.specs.Scan.{first, last}
 use Rattle.layout.specs.Layout.{recordAt, heads}
-use Rattle.layout.specs.declared.block.Holder.the-variants.{Record}
+use Rattle.field.specs.declared.Holder.the-variants.{Record}
 use Rattle.layout.specs.declared.find.Place.{Place}
 use Rattle.layout.specs.declared.find.Place.the-variants.{At, Nowhere}
 

@@ -9,8 +9,8 @@ use Rattle.lent.specs.Bytes.{byteAt, numberAt, window, partOf}
 use Rattle.lent.specs.Scan.{gather, places}
 use Rattle.limits.specs.Limits.{maxBytes, maxStructFields}
 use Rattle.field.specs.declared.FieldDef.{FieldDef}
-use Rattle.layout.specs.declared.block.Holder.{Holder}
-use Rattle.layout.specs.declared.block.Holder.the-variants.{Record, Struct}
+use Rattle.field.specs.declared.Holder.{Holder}
+use Rattle.field.specs.declared.Holder.the-variants.{Record, Struct}
 
 -- a name: a byte that says how long it is, and its bytes
 abbrev pub nameAt : List ℕ → ℕ → List ℕ

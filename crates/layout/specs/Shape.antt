@@ -8,8 +8,8 @@ use Rattle.limits.specs.Limits.{maxBytes, maxFields, maxStructFields, maxRecord
 use Rattle.lent.specs.Bytes.{byteAt, numberAt, hasWindow}
 use Rattle.lent.specs.Scan.{places, every}
 use Rattle.layout.specs.Layout.{startAt, lengthAt, countOf, headsFrom, heads}
-use Rattle.layout.specs.declared.block.Holder.{Holder}
-use Rattle.layout.specs.declared.block.Holder.the-variants.{Record, Struct}
+use Rattle.field.specs.declared.Holder.{Holder}
+use Rattle.field.specs.declared.Holder.the-variants.{Record, Struct}
 
 -- a name of at most 32 bytes
 abbrev pub nameOk : List ℕ → ℕ → Bool

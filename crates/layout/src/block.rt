@@ -3,12 +3,7 @@ ghost use mathlib.Core.Path.{_≡_};
 ghost use Prim.Native.Nat.{_+_, _*_, _/_, _<_, _≤_};
 ghost use Rattle.layout.specs.Layout.{startAt, lengthAt, partAt, recordAt, structAt, headSize, countOf, recordHead, headsFrom, tableAt, limitAt, hasStruct};
 use field::FieldDef;
-
-// What has a head, and a table of fields.
-pub enum Holder {
-    Record,
-    Struct,
-}
+use field::Holder;
 
 // Bytes of the block's head, of a record's and of a struct's, and of a field name.
 const HEAD: usize = 8;

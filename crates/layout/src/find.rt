@@ -4,7 +4,7 @@ ghost use mathlib.Core.Bool.{cond};
 ghost use Prim.Native.Nat.{_<_};
 ghost use Rattle.layout.specs.Find.{isOf, firstOf, lastOf, near};
 use crate::block;
-use crate::block::Holder;
+use field::Holder;
 
 // Where a record's head stands.
 pub enum Place {

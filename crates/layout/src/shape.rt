@@ -5,7 +5,7 @@ ghost use Rattle.lent.specs.Scan.{places, every};
 ghost use Rattle.layout.specs.Layout.{heads};
 ghost use Rattle.layout.specs.Shape.{nameOk, partOk, tableShape, namesMatch, namesShape, recordShape, structShape, headShape, countsOk, shapeOk};
 use crate::block;
-use crate::block::Holder;
+use field::Holder;
 
 fn name_ok(l: &[u8], at: usize) -> bool
     ensures { λ r. ⌜ r ≡ nameOk (now (l .entry)) at ⌝ }

@@ -1,7 +1,6 @@
 // Faults of a text of layouts: what was wrong, where, and what was expected.
 use crate::layouts::fault;
 use crate::layouts::state::State;
-use caseline::blanks;
 use libc::STDERR_FILENO;
 use owl_say::files;
 use owl_say::form;

@@ -8,7 +8,6 @@ pub mod state;
 mod whole;
 mod words;
 
-use caseline::blanks;
 use owl_blocks::pack;
 use owl_blocks::room::Room;
 use owl_blocks::types;

@@ -6,7 +6,6 @@ mod layouts;
 mod making;
 mod plans;
 
-use caseline::blanks;
 use owl_say::files;
 use owl_say::files::Loaded;
 use owl_say::files::Text;

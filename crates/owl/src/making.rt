@@ -4,7 +4,7 @@ use crate::layouts;
 use crate::layouts::fault;
 use crate::layouts::state;
 use crate::layouts::state::State;
-use layout::block::Holder;
+use field::Holder;
 use libc::STDERR_FILENO;
 use libc::STDOUT_FILENO;
 use limits::refusal::Refusal;

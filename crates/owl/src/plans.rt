@@ -4,31 +4,16 @@ use libc::STDERR_FILENO;
 use libc::STDOUT_FILENO;
 use owl_say::files;
 use owl_say::files::Loaded;
-use owl_say::files::Text;
 use owl_tape::Slot;
-use plan_read::reader::ReadPlan;
-use tuppenceowl::texting;
 
 // dbn's header in versions 1 to 3.
 const HEADER: usize = 16;
-
-fn read(text: &Text, n: usize, slot: &mut Slot, fd: i32) -> bool {
-    let all = lent::part(text, 0, n);
-    match texting::read_plan(all, slot) {
-        ReadPlan::Read => true,
-        ReadPlan::Refused(_) => {
-            files::say_arg(fd, 2);
-            owl_check::say(fd, all);
-            false
-        }
-    }
-}
 
 // Whether a plan stands in the slot; if not, it was said why.
 fn load(slot: &mut Slot, most: usize, fd: i32) -> bool {
     let mut text = [0u8; files::ROOM];
     match files::load_second(&mut text, most) {
-        Loaded::Bytes(n) => read(&text, n, slot, fd),
+        Loaded::Bytes(n) => owl_tape::read(&text, n, 2, slot, fd),
         Loaded::Failed => false,
     }
 }

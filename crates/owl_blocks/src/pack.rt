@@ -3,8 +3,8 @@ ghost use Prim.Native.Nat.{_≤_};
 use crate::room;
 use crate::room::Room;
 use caseline::put;
+use field::Holder;
 use layout::block;
-use layout::block::Holder;
 
 // Places of a record's head, and of a struct's.
 const BASE_AT: usize = 4;

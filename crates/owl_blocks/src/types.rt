@@ -1,7 +1,6 @@
 // The types that a line may name, with dbn's names and the numbers of the catalogue that is built in.
 use crate::room::Room;
 use caseline::Parsed;
-use caseline::blanks;
 
 // The numbers that a type may have. Behind their kinds the catalogue has the flag of an array.
 pub const TYPES: usize = 256;

@@ -3,7 +3,6 @@ ghost use Prim.Native.Nat.{_≤_};
 use crate::flaw;
 use crate::flaw::FIELD;
 use caseline::Parsed;
-use caseline::blanks;
 
 // What the lines so far said, at the places below.
 pub type Seen = [usize; 4];

@@ -1,13 +1,16 @@
-// A tape: records in hex, one a line of standard input, upgraded by one plan. Each record has one line of the output.
+// A tape: records in hex, one a line of standard input, upgraded by the plan of a file. Each record has one line of the output.
 use caseline::Parsed;
-use caseline::blanks;
 use caseline::input;
 use caseline::input::Room;
 use caseline::put;
 use dispatch::Upgraded;
 use libc::STDOUT_FILENO;
+use owl_say::files;
+use owl_say::files::Text;
 use owl_say::form;
 use owl_say::refusals;
+use plan_read::reader;
+use plan_read::reader::ReadPlan;
 
 pub type Slot = [u8; slot::SIZE];
 
@@ -20,6 +23,21 @@ const NEWLINE: u8 = b'\n';
 
 // The longest line of the output.
 const LONGEST: usize = 2 * limits::MAX_BYTES + 3;
+
+// ---- the plan
+
+// Whether the text of the file that argument k names is a plan's, which then stands in the slot; if not, it is said why.
+pub fn read(text: &Text, n: usize, k: usize, slot: &mut Slot, fd: i32) -> bool {
+    let all = lent::part(text, 0, n);
+    match reader::read_plan(all, slot) {
+        ReadPlan::Read => true,
+        ReadPlan::Refused(_) => {
+            files::say_arg(fd, k);
+            owl_check::say(fd, all);
+            false
+        }
+    }
+}
 
 // ---- one record
 

@@ -3,73 +3,15 @@ ghost use mathlib.Core.Path.{_≡_};
 ghost use Prim.Native.Nat.{_+_, _≤_};
 ghost use lib.ListN.{length};
 ghost use Rattle.lent.specs.Scan.{first};
-ghost use Rattle.field.specs.Field.{fieldsOf};
+ghost use Rattle.field.specs.Field.{fieldsOf, isSigned};
 ghost use Rattle.step.specs.Step.{copy, int};
 ghost use Rattle.places.specs.Places.{IndexOf};
-ghost use Rattle.plan.specs.Rule.{counts, sameScale, sameArrayness, sameKind, apart, isString, isSigned, sameSign, stepFor, isMarked, wantAt, sameId, stepOf};
+ghost use Rattle.plan_rules.specs.Rule.{stepFor, isMarked, wantAt, sameId, stepOf};
 use field::FieldDef;
+use field::pair;
+use plan_rules::Carried;
 use step::Op;
 use step::Step;
-
-// A target field is carried by a step, or has its default.
-pub enum Carried {
-    By(Step),
-    Default,
-}
-
-pub fn counts(cat: &[u8], f: FieldDef) -> bool
-    ensures { λ r. ⌜ r ≡ counts (now (cat .entry)) f ⌝ }
-{
-    !field::is_padding(cat, f) & !(f.field_id == catalogue::header_id(cat))
-}
-
-fn same_arrayness(cat: &[u8], have: FieldDef, want: FieldDef) -> bool
-    ensures { λ r. ⌜ r ≡ sameArrayness (now (cat .entry)) have want ⌝ }
-{
-    if field::is_array(cat, have) {
-        return field::is_array(cat, want);
-    }
-    !field::is_array(cat, want)
-}
-
-fn same_scale(have: FieldDef, want: FieldDef) -> bool
-    ensures { λ r. ⌜ r ≡ sameScale have want ⌝ }
-{
-    have.scale == want.scale
-}
-
-fn same_kind(cat: &[u8], have: FieldDef, want: FieldDef) -> bool
-    ensures { λ r. ⌜ r ≡ sameKind (now (cat .entry)) have want ⌝ }
-{
-    (have.size == want.size)
-        & ((have.type_id == want.type_id)
-            & (same_scale(have, want) & same_arrayness(cat, have, want)))
-}
-
-fn apart(cat: &[u8], have: FieldDef, want: FieldDef) -> bool
-    ensures { λ r. ⌜ r ≡ apart (now (cat .entry)) have want ⌝ }
-{
-    !same_scale(have, want) | (field::is_array(cat, have) | field::is_array(cat, want))
-}
-
-fn is_string(cat: &[u8], f: FieldDef) -> bool
-    ensures { λ r. ⌜ r ≡ isString (now (cat .entry)) f ⌝ }
-{
-    catalogue::class_of(cat, f.type_id) == catalogue::STRING
-}
-
-pub fn is_signed(cat: &[u8], f: FieldDef) -> bool
-    ensures { λ r. ⌜ r ≡ isSigned (now (cat .entry)) f ⌝ }
-{
-    catalogue::class_of(cat, f.type_id) == catalogue::SIGNED
-}
-
-fn same_sign(cat: &[u8], have: FieldDef, want: FieldDef) -> bool
-    ensures { λ r. ⌜ r ≡ sameSign (now (cat .entry)) have want ⌝ }
-{
-    let same = catalogue::class_of(cat, have.type_id) == catalogue::class_of(cat, want.type_id);
-    field::is_integer(cat, have) & same
-}
 
 fn copy(have: FieldDef, want: FieldDef, size: u16) -> Carried
     ensures { λ r. ⌜ r ≡ Carried.By (copy (have .offset) (want .offset) size) ⌝ }
@@ -92,7 +34,7 @@ fn int(cat: &[u8], have: FieldDef, want: FieldDef, marked: bool) -> Carried
             dst_offset: want.offset,
             src_size: have.size,
             dst_size: want.size,
-            signed: is_signed(cat, have),
+            signed: field::is_signed(cat, have),
             has_undef_max: marked,
         },
     })
@@ -101,19 +43,19 @@ fn int(cat: &[u8], have: FieldDef, want: FieldDef, marked: bool) -> Carried
 pub fn op_for(cat: &[u8], have: FieldDef, want: FieldDef, marked: bool) -> Carried
     ensures { λ r. ⌜ r ≡ stepFor (now (cat .entry)) have want marked ⌝ }
 {
-    if same_kind(cat, have, want) {
+    if pair::same_kind(cat, have, want) {
         return copy(have, want, want.size);
     }
-    if apart(cat, have, want) {
+    if pair::apart(cat, have, want) {
         return Carried::Default;
     }
-    if is_string(cat, have) & is_string(cat, want) {
+    if field::is_string(cat, have) & field::is_string(cat, want) {
         if have.size <= want.size {
             return copy(have, want, have.size);
         }
         return Carried::Default;
     }
-    if same_sign(cat, have, want) & ((have.size < want.size) | marked) {
+    if pair::same_sign(cat, have, want) & ((have.size < want.size) | marked) {
         return int(cat, have, want, marked);
     }
     Carried::Default
@@ -155,7 +97,7 @@ pub fn step_of(
     ensures { λ r. ⌜ r ≡ stepOf (now (cat .entry)) (fieldsOf (now (src .entry))) (wantAt (now (cat .entry)) (now (marks .entry)) (now (dst .entry)) at) ⌝ }
 {
     let want = field::field_in(dst, at);
-    if !counts(cat, want) {
+    if !field::counts(cat, want) {
         return Carried::Default;
     }
     let marked = is_marked(cat, marks, at / field::SIZE, want);

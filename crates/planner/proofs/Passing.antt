@@ -15,7 +15,7 @@ use Rattle.field.specs.Field.{fieldsOf}
 use Rattle.layout.specs.Layout.{RecordLayout}
 use Rattle.record_size.specs.Size.{recordSize}
 use Rattle.slot.specs.Slot.{slotSize}
-use Rattle.plan.specs.Rule.{Want, wants}
+use Rattle.plan_rules.specs.Rule.{Want, wants}
 use Rattle.defaults.specs.Defaults.{startsAfter, headerOk, defaultsOk}
 use Rattle.planner.specs.Planner.{betweenOf}
 use Rattle.planner.specs.declared.Planned.the-variants.{Made, Refused}

@@ -10,11 +10,11 @@ use Rattle.limits.specs.declared.refusal.Refusal.the-variants.{BadHeader, BadDe
 use Rattle.field.specs.Field.{fieldsOf}
 use Rattle.layout.specs.Layout.{RecordLayout, recordOf, countOf}
 use Rattle.record_size.specs.Size.{recordSize}
-use Rattle.layout.specs.declared.block.Holder.the-variants.{Record}
-use Rattle.admission.specs.Admission.{admitBoth, orRefused}
+use Rattle.field.specs.declared.Holder.the-variants.{Record}
+use Rattle.admission_rules.specs.Admission.{admitBoth, orRefused}
 use Rattle.slot.specs.Plan.{Plan}
 use Rattle.slot.specs.Slot.{slotSize, slotOf}
-use Rattle.plan.specs.Rule.{wants}
+use Rattle.plan_rules.specs.Rule.{wants}
 use Rattle.steps.specs.Steps.{plannedSteps}
 use Rattle.defaults.specs.Defaults.{headerOk, defaultsOk}
 use Rattle.planner.specs.declared.Planned.{Planned}

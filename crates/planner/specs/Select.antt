@@ -8,8 +8,8 @@ use Rattle.layout.specs.Layout.{RecordLayout, recordAt, recordOf, heads, countO
 use Rattle.layout.specs.Find.{firstOf}
 use Rattle.layout.specs.declared.find.Place.{Place}
 use Rattle.layout.specs.declared.find.Place.the-variants.{At, Nowhere}
-use Rattle.layout.specs.declared.block.Holder.the-variants.{Record}
-use Rattle.admission.specs.Admission.{admitBoth, orRefused}
+use Rattle.field.specs.declared.Holder.the-variants.{Record}
+use Rattle.admission_rules.specs.Admission.{admitBoth, orRefused}
 use Rattle.planner.specs.declared.select.Selected.{Selected}
 use Rattle.planner.specs.declared.select.Selected.the-variants.{Record as Chosen, Unplanned, NoRecord, Refused}
 

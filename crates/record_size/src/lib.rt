@@ -4,6 +4,7 @@ ghost use Prim.Native.Nat.{_+_, _*_, _<_};
 ghost use Rattle.field.specs.Field.{fieldsOf};
 ghost use Rattle.layout.specs.Layout.{recordAt};
 ghost use Rattle.record_size.specs.Size.{lastEnd, recordSize};
+use field::Holder;
 use layout::block;
 
 fn last_end(t: &[u8]) -> usize
@@ -27,6 +28,6 @@ pub fn record_size(l: &[u8], h: usize) -> usize
 {
     lent::greater(
         block::record_base(l, h),
-        last_end(block::table_at(block::Holder::Record, l, h)),
+        last_end(block::table_at(Holder::Record, l, h)),
     )
 }

@@ -9,20 +9,21 @@ use lib.Dec.{leb, ltb}
 use lib.ListN.{length}
 use Rattle.lent.specs.Scan.{every, first}
 use Rattle.lent.proofs.Scan.{both}
-use Rattle.field.specs.Field.{endOf}
+use Rattle.field.specs.Field.{endOf, counts, isString, isSigned}
 use Rattle.field.specs.declared.FieldDef.{FieldDef}
-use Rattle.order.specs.Order.{insertBy, sortBy, offsetOf}
-use Rattle.order.proofs.Kept.{every-sorted}
-use Rattle.order.proofs.Mapped.{sort-map}
-use Rattle.table.specs.Table.{clearOf, apart}
-use Rattle.table.proofs.Bytes.{Covers, clear}
-use Rattle.table.proofs.Chained.{apart-sorted}
+use Rattle.field.specs.Order.{insertBy, sortBy, offsetOf}
+use Rattle.field.proofs.Kept.{every-sorted}
+use Rattle.field.proofs.Mapped.{sort-map}
+use Rattle.table_rules.specs.Table.{clearOf, apart}
+use Rattle.table_rules.proofs.Bytes.{Covers, clear}
+use Rattle.table_rules.proofs.Chained.{apart-sorted}
 use Rattle.step.specs.Step.{copy, int, targetOf, gives}
 use Rattle.step.specs.declared.Step.{Step}
-use Rattle.plan.specs.Rule.{Want, counts, sameKind, apart as unlike, isString, isSigned, sameSign, sameId, stepFor, stepOf}
+use Rattle.field.specs.Pair.{sameKind, apart as unlike, sameSign}
+use Rattle.plan_rules.specs.Rule.{Want, sameId, stepFor, stepOf}
 use Rattle.steps.specs.Steps.{before, stepsOf, offsetOfWant, inTargetOrder, plannedSteps}
-use Rattle.plan.specs.declared.rule.Carried.{Carried}
-use Rattle.plan.specs.declared.rule.Carried.the-variants.{By, Default}
+use Rattle.plan_rules.specs.declared.Carried.{Carried}
+use Rattle.plan_rules.specs.declared.Carried.the-variants.{By, Default}
 use Rattle.rule.specs.Bytewise.{runByte}
 use Rattle.rule.specs.Body.{defs, holds, carriedByte, ruleByte}
 use Rattle.rule.specs.Recut.{Recut, back, then}

@@ -12,14 +12,14 @@ use lib.Seq.{length-take-le, getD-take, getD-drop, getD-append-add, ext-getD}
 use Rattle.lent.specs.Bytes.{byteAt, numberAt, window}
 use Rattle.lent.specs.Scan.{every, first}
 use Rattle.lent.proofs.Scan.{both}
-use Rattle.field.specs.Field.{endOf}
+use Rattle.field.specs.Field.{endOf, counts}
 use Rattle.field.specs.declared.FieldDef.{FieldDef}
-use Rattle.table.specs.Table.{clearOf, apart}
-use Rattle.table.proofs.Bytes.{Covers, clear}
+use Rattle.table_rules.specs.Table.{clearOf, apart}
+use Rattle.table_rules.proofs.Bytes.{Covers, clear}
 use Rattle.step.specs.Step.{sourceOf, takes, targetOf, gives}
-use Rattle.plan.specs.Rule.{Want, counts, stepOf}
-use Rattle.plan.specs.declared.rule.Carried.{Carried}
-use Rattle.plan.specs.declared.rule.Carried.the-variants.{By, Default}
+use Rattle.plan_rules.specs.Rule.{Want, stepOf}
+use Rattle.plan_rules.specs.declared.Carried.{Carried}
+use Rattle.plan_rules.specs.declared.Carried.the-variants.{By, Default}
 use Rattle.interpreter.specs.Run.{carried, reaches}
 use Rattle.rule.specs.Bytewise.{stepByte}
 use Rattle.rule.specs.Body.{defs, holds, carriedByte, ruleByte, valueOf}

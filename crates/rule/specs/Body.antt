@@ -8,9 +8,9 @@ use Rattle.lent.specs.Scan.{first}
 use Rattle.field.specs.Field.{endOf}
 use Rattle.field.specs.declared.FieldDef.{FieldDef}
 use Rattle.step.specs.Step.{gives}
-use Rattle.plan.specs.Rule.{Want, stepOf}
-use Rattle.plan.specs.declared.rule.Carried.{Carried}
-use Rattle.plan.specs.declared.rule.Carried.the-variants.{By, Default}
+use Rattle.plan_rules.specs.Rule.{Want, stepOf}
+use Rattle.plan_rules.specs.declared.Carried.{Carried}
+use Rattle.plan_rules.specs.declared.Carried.the-variants.{By, Default}
 use Rattle.interpreter.specs.Run.{carried, reaches}
 use Rattle.rule.specs.Bytewise.{stepByte, bytewise}
 

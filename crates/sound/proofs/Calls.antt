@@ -19,16 +19,16 @@ use Rattle.catalogue.proofs.Valid.{integer-width}
 use Rattle.catalogue.specs.Catalogue.{catalogueOk, classOf, widthOf, arrayFlag, extensionFlag, padding}
 use Rattle.field.specs.Field.{fieldAt, endOf}
 use Rattle.field.specs.declared.FieldDef.{FieldDef}
-use Rattle.table.specs.Table.{widthOk}
-use Rattle.layout.specs.declared.block.Holder.{Holder}
-use Rattle.builders.specs.Cursor.{Building, building, Outcome, done, refuse, fresh, rowOf, slotOf, push, paddingField, padTo, gaps, room, fits, moveTo, alignUp, sizeOk, flagsAfter, laid, lay, place}
-use Rattle.calls.specs.Calls.{notedIn, notedAll, baseEnd, finishBaseOf, endedOf}
-use Rattle.builders.proofs.Align.{up-from}
-use Rattle.builders.proofs.Stores.{slot-length}
-use Rattle.builders.proofs.Rooms.{room-there, padded}
-use Rattle.builders.specs.declared.FieldCursor.{FieldCursor}
-use Rattle.builders.specs.declared.Placed.{Placed}
-use Rattle.builders.specs.declared.Placed.the-variants.{At, Refused}
+use Rattle.table_rules.specs.Table.{widthOk}
+use Rattle.field.specs.declared.Holder.{Holder}
+use Rattle.cursor_rules.specs.Cursor.{Building, building, Outcome, done, refuse, fresh, rowOf, slotOf, push, paddingField, padTo, gaps, room, fits, moveTo, alignUp, sizeOk, flagsAfter, laid, lay, place}
+use Rattle.calls_rules.specs.Calls.{notedIn, notedAll, baseEnd, finishBaseOf, endedOf}
+use Rattle.cursor_rules.proofs.Align.{up-from}
+use Rattle.cursor_rules.proofs.Stores.{slot-length}
+use Rattle.cursor_rules.proofs.Rooms.{room-there, padded}
+use Rattle.cursor_rules.specs.declared.FieldCursor.{FieldCursor}
+use Rattle.cursor_rules.specs.declared.Placed.{Placed}
+use Rattle.cursor_rules.specs.declared.Placed.the-variants.{At, Refused}
 use Rattle.sound.specs.Sound.{Sound, fieldsIn, lengthsIn, short, tiles, plain, after, stateAfter}
 use Rattle.sound.proofs.Rows.{same-fields, last-one, same-heads, row-offset, row-size, row-type, row-flags, row-reserved}
 use Rattle.sound.proofs.Tiles.{tiles-more, every-more}

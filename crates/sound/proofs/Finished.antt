@@ -16,21 +16,22 @@ use Rattle.lent.proofs.Stored.{get-below, get-in}
 use Rattle.catalogue.specs.Catalogue.{catalogueOk}
 use Rattle.field.specs.Field.{fieldAt, fieldsOf}
 use Rattle.field.specs.declared.FieldDef.{FieldDef}
-use Rattle.order.specs.Order.{sortBy}
-use Rattle.order.proofs.Kept.{every-sorted, tally-sorted, length-sorted}
-use Rattle.order.proofs.Mapped.{in-order, places-map}
-use Rattle.table.proofs.Chained.{apart-sorted, chain-apart}
-use Rattle.table.specs.Table.{reservedZero, inBounds, widthOk, tableOk}
-use Rattle.table.specs.declared.Rule.{Rule}
-use Rattle.table.specs.declared.Rule.the-variants.{Reserved, Bounds, Apart, Width}
-use Rattle.layout.specs.declared.block.Holder.{Holder}
-use Rattle.builders.specs.Cursor.{Building, building, Outcome, room}
-use Rattle.calls.specs.Calls.{endedOf}
-use Rattle.finishing.specs.Finish.{rankOf, rankAt, orderOf, below, picked, sortedIn, finishOf}
+use Rattle.field.specs.Order.{sortBy}
+use Rattle.field.proofs.Kept.{every-sorted, tally-sorted, length-sorted}
+use Rattle.field.proofs.Mapped.{in-order, places-map}
+use Rattle.table_rules.proofs.Chained.{apart-sorted, chain-apart}
+use Rattle.table_rules.specs.Table.{reservedZero, inBounds, widthOk, tableOk}
+use Rattle.table_rules.specs.declared.Rule.{Rule}
+use Rattle.table_rules.specs.declared.Rule.the-variants.{Reserved, Bounds, Apart, Width}
+use Rattle.field.specs.declared.Holder.{Holder}
+use Rattle.cursor_rules.specs.Cursor.{Building, building, Outcome, room}
+use Rattle.calls_rules.specs.Calls.{endedOf}
+use Rattle.rank.specs.Rank.{rankOf, rankAt}
+use Rattle.finishing.specs.Finish.{orderOf, below, picked, sortedIn, finishOf}
 use Rattle.finishing.proofs.Sorting.{places-below}
 use Rattle.finishing.proofs.Picking.{sets-append, inside}
-use Rattle.builders.specs.declared.Placed.{Placed}
-use Rattle.builders.specs.declared.Placed.the-variants.{At, Refused}
+use Rattle.cursor_rules.specs.declared.Placed.{Placed}
+use Rattle.cursor_rules.specs.declared.Placed.the-variants.{At, Refused}
 use Rattle.sound.specs.Sound.{Sound, Filled, Limited, fieldsIn, lengthsIn, short, tableOf, tiles, covers, plain, after, stateAfter}
 use Rattle.sound.proofs.Rows.{same-field, front-fields}
 use Rattle.sound.proofs.Tiles.{tiles-chain, tiles-bounds, tiles-once}

@@ -12,10 +12,10 @@ use Rattle.lent.proofs.Scan.{both}
 use Rattle.catalogue.specs.Catalogue.{catalogueOk, classOf, widthOf, firstOf, idOf, struct}
 use Rattle.field.specs.Field.{fieldsOf}
 use Rattle.layout.specs.Layout.{structAt, countOf}
-use Rattle.layout.specs.declared.block.Holder.{Holder}
-use Rattle.layout.specs.declared.block.Holder.the-variants.{Struct}
-use Rattle.builders.specs.Cursor.{Building}
-use Rattle.calls.specs.Calls.{sketch, scaleOf, takesScalar, takesString, takesLike, widest, structHead, timesFlag, nestedSize}
+use Rattle.field.specs.declared.Holder.{Holder}
+use Rattle.field.specs.declared.Holder.the-variants.{Struct}
+use Rattle.cursor_rules.specs.Cursor.{Building}
+use Rattle.calls_rules.specs.Calls.{sketch, scaleOf, takesScalar, takesString, takesLike, widest, structHead, timesFlag, nestedSize}
 use Rattle.sound.specs.Sound.{Sound, Filled, Limited, tableOf, lengthsIn, short, after}
 use Rattle.sound.specs.Made.{Call, Scalar, Chars, Like, Nested, Goes, EndBase, answerOf, typeFits, madeFrom, made, finished}
 use Rattle.sound.proofs.Calls.{fresh-sound, place-sound, move-sound, finish-base-sound}

@@ -11,7 +11,7 @@ use Rattle.lent.specs.Scan.{gather}
 use Rattle.lent.proofs.Stored.{get-in}
 use Rattle.field.specs.Field.{fieldAt, fieldsOf}
 use Rattle.field.specs.declared.FieldDef.{FieldDef}
-use Rattle.builders.specs.Cursor.{rowOf}
+use Rattle.cursor_rules.specs.Cursor.{rowOf}
 
 -- ---- the same bytes are the same field
 

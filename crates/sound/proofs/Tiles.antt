@@ -10,8 +10,8 @@ use Rattle.lent.specs.Scan.{every, tally}
 use Rattle.lent.proofs.Scan.{both}
 use Rattle.field.specs.Field.{endOf}
 use Rattle.field.specs.declared.FieldDef.{FieldDef}
-use Rattle.table.specs.Table.{inBounds}
-use Rattle.table.specs.Parts.{chain}
+use Rattle.table_rules.specs.Table.{inBounds}
+use Rattle.table_rules.specs.Parts.{chain}
 use Rattle.sound.specs.Sound.{tiles, covers}
 
 -- what the first of them and the rest are

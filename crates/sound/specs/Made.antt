@@ -4,10 +4,10 @@ use mathlib.Core.Bool.{Bool, true}
 use mathlib.Core.List.{List, [], _∷_}
 use lib.Dec.{ltb}
 use Rattle.field.specs.declared.FieldDef.{FieldDef}
-use Rattle.layout.specs.declared.block.Holder.{Holder}
-use Rattle.builders.specs.Cursor.{Building, building, Outcome, fresh}
-use Rattle.builders.specs.declared.Times.{Times}
-use Rattle.calls.specs.Calls.{scalarOf, stringOf, likeOf, nestedOf, atOf, finishBaseOf}
+use Rattle.field.specs.declared.Holder.{Holder}
+use Rattle.cursor_rules.specs.Cursor.{Building, building, Outcome, fresh}
+use Rattle.cursor_rules.specs.declared.Times.{Times}
+use Rattle.calls_rules.specs.Calls.{scalarOf, stringOf, likeOf, nestedOf, atOf, finishBaseOf}
 use Rattle.finishing.specs.Finish.{finishOf}
 use Rattle.sound.specs.Sound.{after}
 

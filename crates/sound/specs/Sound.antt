@@ -10,13 +10,13 @@ use Rattle.lent.specs.Bytes.{byteAt}
 use Rattle.lent.specs.Scan.{gather, every, tally}
 use Rattle.field.specs.Field.{fieldAt, endOf}
 use Rattle.field.specs.declared.FieldDef.{FieldDef}
-use Rattle.table.specs.Table.{reservedZero, widthOk, tableOk}
-use Rattle.table.specs.declared.Rule.{Rule}
-use Rattle.layout.specs.declared.block.Holder.{Holder}
-use Rattle.builders.specs.Cursor.{Building, building, Outcome, room, fieldLimit}
-use Rattle.builders.specs.declared.FieldCursor.{FieldCursor}
-use Rattle.builders.specs.declared.Placed.{Placed}
-use Rattle.builders.specs.declared.Placed.the-variants.{At, Refused}
+use Rattle.table_rules.specs.Table.{reservedZero, widthOk, tableOk}
+use Rattle.table_rules.specs.declared.Rule.{Rule}
+use Rattle.field.specs.declared.Holder.{Holder}
+use Rattle.cursor_rules.specs.Cursor.{Building, building, Outcome, room, fieldLimit}
+use Rattle.cursor_rules.specs.declared.FieldCursor.{FieldCursor}
+use Rattle.cursor_rules.specs.declared.Placed.{Placed}
+use Rattle.cursor_rules.specs.declared.Placed.the-variants.{At, Refused}
 
 -- fields with a size, the first at `from`, each where the one before it ends, the last up to `to`
 unfoldable pub tiles : ℕ → ℕ → List FieldDef → Bool

@@ -10,10 +10,10 @@ use lib.Seq.{take-suc, take-suc-set}
 use Rattle.lent.proofs.Scan.{entry, no-entry}
 use Rattle.field.specs.declared.FieldDef.{FieldDef}
 use Rattle.step.specs.declared.Step.{Step}
-use Rattle.plan.specs.Rule.{Want, stepOf}
+use Rattle.plan_rules.specs.Rule.{Want, stepOf}
 use Rattle.coalesce.specs.Joins.{joins, joined}
 use Rattle.steps.specs.Steps.{before, stepsOf}
-use Rattle.plan.specs.declared.rule.Carried.the-variants.{By, Default}
+use Rattle.plan_rules.specs.declared.Carried.the-variants.{By, Default}
 use Rattle.coalesce.specs.declared.Joining.the-variants.{One, Two}
 use Rattle.coalesce.proofs.Onto.{joinOnto, onto-first, onto-end, onto-one, onto-two}
 

@@ -2,12 +2,12 @@
 use Prim.Native.Nat.{ℕ}
 use mathlib.Core.List.{List, [], _∷_}
 use Rattle.field.specs.declared.FieldDef.{FieldDef}
-use Rattle.order.specs.Order.{sortBy}
+use Rattle.field.specs.Order.{sortBy}
 use Rattle.step.specs.declared.Step.{Step}
 use Rattle.coalesce.specs.Joins.{joinAll}
-use Rattle.plan.specs.Rule.{Want, stepOf}
-use Rattle.plan.specs.declared.rule.Carried.{Carried}
-use Rattle.plan.specs.declared.rule.Carried.the-variants.{By, Default}
+use Rattle.plan_rules.specs.Rule.{Want, stepOf}
+use Rattle.plan_rules.specs.declared.Carried.{Carried}
+use Rattle.plan_rules.specs.declared.Carried.the-variants.{By, Default}
 
 -- one for each field that is carried
 abbrev pub before : Carried → List Step → List Step

@@ -6,12 +6,12 @@ ghost use lib.ListN.{length, getD, take};
 ghost use Rattle.limits.specs.Limits.{maxFields, maxSteps};
 ghost use Rattle.field.specs.Field.{fieldsOf};
 ghost use Rattle.coalesce.specs.Joins.{joinAll};
-ghost use Rattle.plan.specs.Rule.{wantAt, wants};
+ghost use Rattle.plan_rules.specs.Rule.{wantAt, wants};
 ghost use Rattle.steps.specs.Steps.{stepsOf, plannedSteps};
 use coalesce::Bases;
 use coalesce::Joining;
 use plan::rule;
-use plan::rule::Carried;
+use plan_rules::Carried;
 use step::Op;
 use step::Step;
 use step::Steps;
@@ -82,6 +82,6 @@ pub fn planned(cat: &[u8], src: &[u8], dst: &[u8], marks: &[u8], bases: Bases) -
 {
     let n = dst.len() / field::SIZE;
     let mut order = [0u16; limits::MAX_FIELDS];
-    order::by_offset(dst, n, &mut order);
+    field::order::by_offset(dst, n, &mut order);
     in_order(cat, src, dst, marks, &order, n, bases)
 }

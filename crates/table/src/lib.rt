@@ -5,17 +5,10 @@ ghost use Prim.Native.Nat.{_+_, _*_, _<_, _≤_};
 ghost use lib.ListN.{length, take};
 ghost use Rattle.lent.specs.Scan.{gather, every};
 ghost use Rattle.field.specs.Field.{fieldAt, fieldsOf};
-ghost use Rattle.table.specs.Table.{reservedZero, shareByte, clearOf, apart, widthOk, tableOk};
-ghost use Rattle.table.specs.Parts.{fieldOk, chain, alone, tidy};
+ghost use Rattle.table_rules.specs.Table.{reservedZero, shareByte, clearOf, apart, widthOk, tableOk};
+ghost use Rattle.table_rules.specs.Parts.{fieldOk, chain, alone, tidy};
 use field::FieldDef;
-
-// What is tested of a table, in the order of the refusals.
-pub enum Rule {
-    Reserved,
-    Bounds,
-    Apart,
-    Width,
-}
+use table_rules::Rule;
 
 // ---- field by field
 
@@ -116,11 +109,11 @@ fn chain_ok(t: &[u8], n: usize, order: &[u16]) -> bool
     let mut k = 0;
     while k < n {
         let place = order[k];
-        let from = order::offset_at(t, place);
+        let from = field::order::offset_at(t, place);
         if from < low {
             return false;
         }
-        low = from + order::size_at(t, place);
+        low = from + field::order::size_at(t, place);
         k += 1;
     }
     true
@@ -133,7 +126,7 @@ fn apart_ok(t: &[u8]) -> bool
     let n = t.len() / field::SIZE;
     if n <= limits::MAX_FIELDS {
         let mut order = [0u16; limits::MAX_FIELDS];
-        order::by_offset(t, n, &mut order);
+        field::order::by_offset(t, n, &mut order);
         if chain_ok(t, n, &order) {
             return true;
         }

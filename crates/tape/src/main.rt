@@ -4,21 +4,14 @@ use libc::STDERR_FILENO;
 use owl_say::files;
 use owl_say::files::Loaded;
 use owl_say::files::Text;
-use plan_read::reader;
-use plan_read::reader::ReadPlan;
 
 // dbn's header in versions 1 to 3.
 const HEADER: usize = 16;
 
 fn upgrade(text: &Text, n: usize) {
-    let all = lent::part(text, 0, n);
     let mut slot = [0u8; slot::SIZE];
-    match reader::read_plan(all, &mut slot) {
-        ReadPlan::Read => owl_tape::run(&slot, HEADER),
-        ReadPlan::Refused(_) => {
-            files::complain_arg(1);
-            owl_check::say(STDERR_FILENO, all);
-        }
+    if owl_tape::read(text, n, 1, &mut slot, STDERR_FILENO) {
+        owl_tape::run(&slot, HEADER);
     }
 }
 

@@ -7,10 +7,10 @@ use native.Mathlib.Omega.{arith}
 use borrow.Author.Tests.{ltb-true}
 use lib.Dec.{ltb}
 use Rattle.layout.specs.Layout.{countOf}
-use Rattle.layout.specs.declared.block.Holder.the-variants.{Record}
-use Rattle.admission.specs.Admission.{admitOf, orRefused}
-use Rattle.admission.specs.declared.Admitted.{Admitted}
-use Rattle.admission.specs.declared.Admitted.the-variants.{Fine, Refused}
+use Rattle.field.specs.declared.Holder.the-variants.{Record}
+use Rattle.admission_rules.specs.Admission.{admitOf, orRefused}
+use Rattle.admission_rules.specs.declared.Admitted.{Admitted}
+use Rattle.admission_rules.specs.declared.Admitted.the-variants.{Fine, Refused}
 use Rattle.tuppenceowl.specs.Answers.{summedOf}
 use Rattle.tuppenceowl.specs.declared.hashing.Summed.{Summed}
 use Rattle.tuppenceowl.specs.declared.hashing.Summed.the-variants.{Hash, NoRecord, Refused as Unsummed}

@@ -4,8 +4,8 @@ use mathlib.Core.Bool.{Bool}
 use mathlib.Core.List.{List}
 use Prim.Native.Nat.{ℕ}
 use lib.ListN.{length}
-use Rattle.admission.specs.Admission.{admitCatalogue, admitOf}
-use Rattle.admission.specs.declared.Admitted.{Admitted}
+use Rattle.admission_rules.specs.Admission.{admitCatalogue, admitOf}
+use Rattle.admission_rules.specs.declared.Admitted.{Admitted}
 use Rattle.tuppenceowl.specs.Answers.{sizedOf, windowedOf, foundOf, summedOf, bootedOf}
 use Rattle.tuppenceowl.specs.Comparing.{judgedOf, judgedRtype, foundById, foundByName}
 use Rattle.tuppenceowl.specs.Texting.{checkedOf}
@@ -22,10 +22,10 @@ use Rattle.tuppenceowl.specs.declared.hashing.Summed.{Summed}
 use Rattle.tuppenceowl.specs.declared.hashing.Booted.{Booted}
 use Rattle.tuppenceowl.specs.declared.Windowed.{Windowed}
 use Rattle.tuppenceowl.specs.declared.Found.{Found}
-use Rattle.layout.specs.declared.block.Holder.{Holder}
-use Rattle.builders.specs.Cursor.{Outcome, outcome, fresh}
-use Rattle.builders.specs.declared.FieldCursor.{FieldCursor}
-use Rattle.builders.specs.declared.Placed.{Placed}
+use Rattle.field.specs.declared.Holder.{Holder}
+use Rattle.cursor_rules.specs.Cursor.{Outcome, outcome, fresh}
+use Rattle.cursor_rules.specs.declared.FieldCursor.{FieldCursor}
+use Rattle.cursor_rules.specs.declared.Placed.{Placed}
 use Rattle.dispatch.specs.Dispatch.{appliedOf, afterApply, upgradedOf, afterUpgrade}
 use Rattle.dispatch.specs.declared.Upgraded.{Upgraded}
 use Rattle.planner.specs.Planner.{plannedOf, afterPlan}

@@ -9,14 +9,14 @@ use Rattle.limits.specs.declared.refusal.Refusal.the-variants.{BadShape, Reserv
 use Rattle.lent.specs.Bytes.{hasWindow}
 use Rattle.lent.specs.Scan.{every}
 use Rattle.field.specs.Field.{fieldAt, fieldsOf}
-use Rattle.table.specs.Table.{reservedZero}
+use Rattle.table_rules.specs.Table.{reservedZero}
 use Rattle.layout.specs.Layout.{countOf, recordOf}
 use Rattle.record_size.specs.Size.{recordSize}
-use Rattle.layout.specs.declared.block.Holder.the-variants.{Record}
-use Rattle.admission.specs.Admission.{admitOf, orRefused}
-use Rattle.hash.specs.Hash.{hashOf}
-use Rattle.hash.specs.declared.Hashed.{Hashed}
-use Rattle.hash.specs.declared.Hashed.the-variants.{Sum, Refused as Unhashed}
+use Rattle.field.specs.declared.Holder.the-variants.{Record}
+use Rattle.admission_rules.specs.Admission.{admitOf, orRefused}
+use Rattle.hash_rules.specs.Hash.{hashOf}
+use Rattle.hash_rules.specs.declared.Hashed.{Hashed}
+use Rattle.hash_rules.specs.declared.Hashed.the-variants.{Sum, Refused as Unhashed}
 use Rattle.tuppenceowl.specs.declared.hashing.Summed.{Summed}
 use Rattle.tuppenceowl.specs.declared.hashing.Summed.the-variants.{Hash, NoRecord as NoSum, Refused as Unsummed}
 use Rattle.tuppenceowl.specs.declared.hashing.Booted.{Booted}

@@ -5,12 +5,12 @@ use mathlib.Core.List.{List}
 use lib.Dec.{ltb}
 use Rattle.layout.specs.Layout.{countOf, recordHead}
 use Rattle.layout.specs.Find.{lastOf, atPlace}
-use Rattle.layout.specs.declared.block.Holder.the-variants.{Record}
-use Rattle.admission.specs.Admission.{admitOf, admitBoth, orRefused}
+use Rattle.field.specs.declared.Holder.the-variants.{Record}
+use Rattle.admission_rules.specs.Admission.{admitOf, admitBoth, orRefused}
 use Rattle.compare.specs.Compare.{verdictOf}
-use Rattle.index.specs.Index.{byId, byName}
-use Rattle.index.specs.declared.Lookup.{Lookup}
-use Rattle.index.specs.declared.Lookup.the-variants.{Def, Missing}
+use Rattle.index_rules.specs.Index.{byId, byName}
+use Rattle.index_rules.specs.declared.Lookup.{Lookup}
+use Rattle.index_rules.specs.declared.Lookup.the-variants.{Def, Missing}
 use Rattle.tuppenceowl.specs.declared.comparing.Judged.{Judged}
 use Rattle.tuppenceowl.specs.declared.comparing.Judged.the-variants.{Is, NoRecord, Refused as Unjudged}
 use Rattle.tuppenceowl.specs.declared.Found.{Found}

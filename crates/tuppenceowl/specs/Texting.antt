@@ -3,8 +3,8 @@ use Prim.Native.Nat.{ℕ}
 use mathlib.Core.Bool.{cond}
 use mathlib.Core.List.{List}
 use Rattle.limits.specs.declared.refusal.Refusal.the-variants.{BadPlan}
-use Rattle.admission.specs.declared.Admitted.{Admitted}
-use Rattle.admission.specs.declared.Admitted.the-variants.{Fine, Refused}
+use Rattle.admission_rules.specs.declared.Admitted.{Admitted}
+use Rattle.admission_rules.specs.declared.Admitted.the-variants.{Fine, Refused}
 use Rattle.slot.specs.Slot.{slotOk}
 
 -- a plan that is handed over keeps every rule, or is refused

@@ -1,14 +1,14 @@
 // The field cursor. The state goes in by value and comes back; the fields go into a lent table, 16 bytes each from its start, and
 // their names into lent slots, 33 bytes each. A refused call leaves both as they were.
 ghost use mathlib.Core.Path.{_≡_};
-ghost use Rattle.builders.specs.Cursor.{fresh, building, outcome};
-ghost use Rattle.calls.specs.Calls.{scalarOf, stringOf, likeOf, nestedOf, atOf, finishBaseOf};
+ghost use Rattle.cursor_rules.specs.Cursor.{fresh, building, outcome};
+ghost use Rattle.calls_rules.specs.Calls.{scalarOf, stringOf, likeOf, nestedOf, atOf, finishBaseOf};
 ghost use Rattle.finishing.specs.Finish.{finishOf};
-use builders::FieldCursor;
-use builders::Placed;
-use builders::Times;
+use cursor_rules::FieldCursor;
+use cursor_rules::Placed;
+use cursor_rules::Times;
 use field::FieldDef;
-use layout::block::Holder;
+use field::Holder;
 
 pub fn empty(holder: Holder) -> FieldCursor
     ensures { λ r. ⌜ r ≡ fresh holder ⌝ }

@@ -2,11 +2,11 @@
 ghost use mathlib.Core.Path.{_≡_};
 ghost use Rattle.tuppenceowl.specs.Comparing.{asFound, judgedOf, judgedRtype, foundById, foundByName};
 use crate::Found;
-use admission::Admitted;
+use admission_rules::Admitted;
 use compare::answer::Verdict;
-use index::Lookup;
+use field::Holder;
+use index_rules::Lookup;
 use layout::block;
-use layout::block::Holder;
 use layout::find;
 use layout::find::Place;
 use limits::refusal::Refusal;

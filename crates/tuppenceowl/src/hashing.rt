@@ -3,10 +3,10 @@ ghost use mathlib.Core.Path.{_≡_};
 ghost use Rattle.limits.specs.Limits.{defaultBudget};
 ghost use Rattle.crc64.specs.Avro.{fingerprint};
 ghost use Rattle.tuppenceowl.specs.Answers.{asSummed, summedOf, bootedOf};
-use admission::Admitted;
-use hash::Hashed;
+use admission_rules::Admitted;
+use field::Holder;
+use hash_rules::Hashed;
 use layout::block;
-use layout::block::Holder;
 use limits::refusal::Refusal;
 
 pub enum Summed {

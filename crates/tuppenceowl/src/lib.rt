@@ -7,12 +7,12 @@ pub mod texting;
 pub mod upgrading;
 
 ghost use mathlib.Core.Path.{_≡_};
-ghost use Rattle.admission.specs.Admission.{admitCatalogue, admitOf};
+ghost use Rattle.admission_rules.specs.Admission.{admitCatalogue, admitOf};
 ghost use Rattle.tuppenceowl.specs.Answers.{aloneOk, sizedOf, windowedOf, foundOf};
-pub use admission::Admitted;
+pub use admission_rules::Admitted;
 use field::FieldDef;
+use field::Holder;
 use layout::block;
-use layout::block::Holder;
 use limits::refusal::Refusal;
 
 pub enum Sized {

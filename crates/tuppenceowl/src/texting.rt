@@ -3,7 +3,7 @@ ghost use mathlib.Core.Path.{_≡_};
 ghost use Rattle.plan_text.specs.Writing.{writtenOf, afterWriting};
 ghost use Rattle.plan_read.specs.Reading.{Reads};
 ghost use Rattle.tuppenceowl.specs.Texting.{checkedOf};
-use admission::Admitted;
+use admission_rules::Admitted;
 use limits::refusal::Refusal;
 use plan_read::reader;
 use plan_read::reader::ReadPlan;

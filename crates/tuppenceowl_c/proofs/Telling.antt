@@ -2,9 +2,9 @@
 use Prim.Native.Nat.{ℕ}
 use mathlib.Core.List.{List}
 use mathlib.Core.Path.{_≡_, _∙_, ap}
-use Rattle.builders.specs.Cursor.{Building, building, Outcome, outcome}
-use Rattle.builders.specs.declared.FieldCursor.{FieldCursor}
-use Rattle.builders.specs.declared.Placed.{Placed}
+use Rattle.cursor_rules.specs.Cursor.{Building, building, Outcome, outcome}
+use Rattle.cursor_rules.specs.declared.FieldCursor.{FieldCursor}
+use Rattle.cursor_rules.specs.declared.Placed.{Placed}
 use Rattle.tuppenceowl_c.specs.Building.{stateIn, lentTo, placedStatus, stateOr, hosted, hostedOf}
 
 pub telling : (call : Building → Outcome) (s t ns : List ℕ) {u v ms : List ℕ} {c : FieldCursor} {p : Placed} {r : ℕ}

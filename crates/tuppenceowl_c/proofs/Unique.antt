@@ -3,9 +3,9 @@
 use mathlib.Core.Path.{_≡_, sym, ap, _∙_}
 use mathlib.Core.List.{List}
 use Prim.Native.Nat.{ℕ}
-use Rattle.admission.specs.Admission.{statusOf}
-use Rattle.admission.specs.declared.Admitted.{Admitted}
-use Rattle.builders.specs.declared.FieldCursor.{FieldCursor}
+use Rattle.admission_rules.specs.Admission.{statusOf}
+use Rattle.admission_rules.specs.declared.Admitted.{Admitted}
+use Rattle.cursor_rules.specs.declared.FieldCursor.{FieldCursor}
 use Rattle.dispatch.specs.declared.Upgraded.{Upgraded}
 use Rattle.planner.specs.declared.Planned.{Planned}
 use Rattle.planner.specs.declared.select.Selected.{Selected}

@@ -5,12 +5,12 @@ use mathlib.Core.List.{List, [], _∷_}
 use lib.Dec.{eqb}
 use lib.ListN.{getD}
 use Rattle.limits.specs.Refusal.{numberOf}
-use Rattle.layout.specs.declared.block.Holder.{Holder}
-use Rattle.layout.specs.declared.block.Holder.the-variants.{Record, Struct}
-use Rattle.builders.specs.Cursor.{Building, building, Outcome}
-use Rattle.builders.specs.declared.FieldCursor.{FieldCursor}
-use Rattle.builders.specs.declared.Placed.{Placed}
-use Rattle.builders.specs.declared.Placed.the-variants.{At, Refused}
+use Rattle.field.specs.declared.Holder.{Holder}
+use Rattle.field.specs.declared.Holder.the-variants.{Record, Struct}
+use Rattle.cursor_rules.specs.Cursor.{Building, building, Outcome}
+use Rattle.cursor_rules.specs.declared.FieldCursor.{FieldCursor}
+use Rattle.cursor_rules.specs.declared.Placed.{Placed}
+use Rattle.cursor_rules.specs.declared.Placed.the-variants.{At, Refused}
 
 -- a base is noted where the last number is not 0
 abbrev pub stateIn : List ℕ → FieldCursor

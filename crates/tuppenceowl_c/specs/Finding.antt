@@ -2,7 +2,7 @@
 use Prim.Native.Nat.{ℕ}
 use mathlib.Core.List.{List}
 use Rattle.limits.specs.Refusal.{numberOf}
-use Rattle.builders.specs.Cursor.{rowOf}
+use Rattle.cursor_rules.specs.Cursor.{rowOf}
 use Rattle.tuppenceowl.specs.declared.Found.{Found}
 use Rattle.tuppenceowl.specs.declared.Found.the-variants.{Field, NoField, Refused}
 use Rattle.tuppenceowl_c.specs.Status.{none}

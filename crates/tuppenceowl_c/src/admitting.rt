@@ -1,6 +1,6 @@
 // The catalogue, admission, a record's size, and windows.
 ghost use mathlib.Core.Path.{_≡_};
-ghost use Rattle.admission.specs.Admission.{admitCatalogue, admitOf, statusOf};
+ghost use Rattle.admission_rules.specs.Admission.{admitCatalogue, admitOf, statusOf};
 ghost use Rattle.tuppenceowl.specs.Answers.{sizedOf, windowedOf};
 ghost use Rattle.tuppenceowl_c.specs.Admitting.{sizedStatus, bytesOr, windowedStatus, startOr, endOr};
 use crate::NONE;

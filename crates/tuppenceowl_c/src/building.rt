@@ -1,14 +1,14 @@
 // The field cursor's calls. A refused call leaves the state, the table and the names as they were.
 ghost use mathlib.Core.Path.{_≡_};
 ghost use Rattle.field.specs.Field.{fieldAt};
-ghost use Rattle.builders.specs.declared.Times.the-variants.{One, Array};
-ghost use Rattle.calls.specs.Calls.{scalarOf, stringOf, likeOf, nestedOf, atOf, finishBaseOf};
+ghost use Rattle.cursor_rules.specs.declared.Times.the-variants.{One, Array};
+ghost use Rattle.calls_rules.specs.Calls.{scalarOf, stringOf, likeOf, nestedOf, atOf, finishBaseOf};
 ghost use Rattle.finishing.specs.Finish.{finishOf};
 ghost use Rattle.tuppenceowl_c.specs.Building.{lentTo, hosted, hostedOf};
 use crate::state;
 use crate::state::State;
-use builders::Times;
 use builders::bytes::Row;
+use cursor_rules::Times;
 use tuppenceowl::building;
 
 #[no_mangle]

@@ -1,10 +1,10 @@
 // The field cursor's state as five lent numbers: most, count, cursor, base, and whether the base is noted.
 ghost use mathlib.Core.Path.{_≡_};
-ghost use Rattle.builders.specs.Cursor.{fresh};
+ghost use Rattle.cursor_rules.specs.Cursor.{fresh};
 ghost use Rattle.tuppenceowl_c.specs.Building.{stateIn, stateOut, holderOf, placedStatus, stateOr};
-use builders::FieldCursor;
-use builders::Placed;
-use layout::block::Holder;
+use cursor_rules::FieldCursor;
+use cursor_rules::Placed;
+use field::Holder;
 
 pub type State = [usize; 5];
 

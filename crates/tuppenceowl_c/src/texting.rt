@@ -1,6 +1,6 @@
 // Plan text, and the check of a plan.
 ghost use mathlib.Core.Path.{_≡_};
-ghost use Rattle.admission.specs.Admission.{statusOf};
+ghost use Rattle.admission_rules.specs.Admission.{statusOf};
 ghost use Rattle.plan_text.specs.Writing.{writtenOf, afterWriting};
 ghost use Rattle.tuppenceowl.specs.Texting.{checkedOf};
 ghost use Rattle.tuppenceowl_c.specs.Texting.{writtenStatus, lengthOr, ReadsAs};

@@ -2,7 +2,7 @@
 use mathlib.Core.Path.{sym, _∙_}
 use borrow.Author.Tests.{not-true, not-false}
 use borrow.Author.Needs.{needs}
-use Rattle.admission.specs.Admission.{layoutOk}
+use Rattle.admission_rules.specs.Admission.{layoutOk}
 use Rattle.admission.proofs.admit_each.Statement.{statement}
 use Rattle.admission.proofs.admit_each.Tie as tie
 

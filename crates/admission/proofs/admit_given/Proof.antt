@@ -1,7 +1,7 @@
 use mathlib.Core.Path.{sym, _∙_}
 use borrow.Author.Tests.{not-true, not-false}
 use borrow.Author.Needs.{needs}
-use Rattle.admission.specs.Admission.{admitAll}
+use Rattle.admission_rules.specs.Admission.{admitAll}
 use Rattle.admission.proofs.admit_given.Statement.{statement}
 use Rattle.admission.proofs.admit_given.Tie as tie
 

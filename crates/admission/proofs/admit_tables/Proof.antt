@@ -1,6 +1,6 @@
 use mathlib.Core.Path.{sym, _∙_}
 use borrow.Author.Needs.{needs}
-use Rattle.admission.proofs.Tidy.{tidy-fine}
+use Rattle.admission_rules.proofs.Tidy.{tidy-fine}
 use Rattle.admission.proofs.admit_tables.Statement.{statement}
 use Rattle.admission.proofs.admit_tables.Tie as tie
 

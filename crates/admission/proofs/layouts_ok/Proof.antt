@@ -1,6 +1,6 @@
 use borrow.Author.Needs.{needs}
 use mathlib.Core.Path.{sym}
-use Rattle.admission.specs.Parts.{layoutPasses}
+use Rattle.admission_rules.specs.Parts.{layoutPasses}
 use Rattle.lent.proofs.Scan.{and-true}
 use Rattle.lent.specs.Scan.{every}
 use Rattle.admission.proofs.layouts_ok.Statement.{statement}

@@ -4,7 +4,7 @@ use Prim.Native.Nat.{ℕ, _+_, _*_, _<_}
 use native.Mathlib.Omega.{arith}
 use borrow.Author.Tests.{not-true, not-false}
 use borrow.Author.Needs.{needs}
-use Rattle.admission.specs.Parts.{headPasses}
+use Rattle.admission_rules.specs.Parts.{headPasses}
 use Rattle.lent.specs.Scan.{every, places}
 use Rattle.lent.proofs.Scan.{stops, goes, ends}
 use Rattle.layout.specs.Layout.{heads}

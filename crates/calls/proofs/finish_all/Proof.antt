@@ -1,8 +1,8 @@
 use borrow.Author.Needs.{needs}
 use mathlib.Core.Path.{ap}
-use Rattle.calls.proofs.Ends.{noted-so, over}
-use Rattle.calls.specs.Calls.{notedAll}
-use Rattle.builders.specs.Cursor.{alignUp, building, moveTo}
+use Rattle.calls_rules.proofs.Ends.{noted-so, over}
+use Rattle.calls_rules.specs.Calls.{notedAll}
+use Rattle.cursor_rules.specs.Cursor.{alignUp, building, moveTo}
 use Rattle.calls.proofs.finish_all.Statement.{statement}
 use Rattle.calls.proofs.finish_all.Tie as tie
 

@@ -1,8 +1,8 @@
 use borrow.Author.Needs.{needs}
 use mathlib.Core.Path.{ap}
-use Rattle.calls.proofs.Ends.{noted-so, over}
-use Rattle.calls.specs.Calls.{baseEnd, notedAll}
-use Rattle.builders.specs.Cursor.{building, moveTo}
+use Rattle.calls_rules.proofs.Ends.{noted-so, over}
+use Rattle.calls_rules.specs.Calls.{baseEnd, notedAll}
+use Rattle.cursor_rules.specs.Cursor.{building, moveTo}
 use Rattle.calls.proofs.finish_base.Statement.{statement}
 use Rattle.calls.proofs.finish_base.Tie as tie
 

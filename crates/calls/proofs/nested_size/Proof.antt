@@ -1,6 +1,6 @@
 use borrow.Author.Needs.{needs}
-use Rattle.builders.proofs.Align.{below32}
-use Rattle.builders.specs.Cursor.{fits}
+use Rattle.cursor_rules.proofs.Align.{below32}
+use Rattle.cursor_rules.specs.Cursor.{fits}
 use Rattle.calls.proofs.nested_size.Statement.{statement}
 use Rattle.calls.proofs.nested_size.Tie as tie
 

@@ -1,6 +1,6 @@
 use borrow.Author.Needs.{needs}
 use mathlib.Core.Path.{_∙_}
-use Rattle.calls.proofs.Ends.{scale-back}
+use Rattle.calls_rules.proofs.Ends.{scale-back}
 use Rattle.calls.proofs.scalar.Statement.{statement}
 use Rattle.calls.proofs.scalar.Tie as tie
 

@@ -4,7 +4,7 @@ use borrow.Author.Needs.{needs}
 use lib.ListN.{length}
 use mathlib.Core.Path.{_≡_}
 use native.Mathlib.Omega.{arith}
-use Rattle.calls.specs.Calls.{widest}
+use Rattle.calls_rules.specs.Calls.{widest}
 use Rattle.catalogue.specs.Catalogue.{widthOf}
 use Rattle.field.specs.Field.{fieldAt, fieldsOf}
 use Rattle.lent.specs.Scan.{gather}

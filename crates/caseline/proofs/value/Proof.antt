@@ -28,11 +28,11 @@ returns c = search needs
 mul-n : tie.Need-mul-n Inv-loop μ-loop
 mul-n c = omega (arith, small (c .before .before .before .before .loop .n) (c .before .before .before .before .loop .at) (c .before .before .before .before .loop .inv .1) (omega arith))
 
-wide8-requires : tie.Need-wide8-requires Inv-loop μ-loop
-wide8-requires c κs = search needs
+cast-n : tie.Need-cast-n Inv-loop μ-loop
+cast-n c = search needs
 
 add-n : tie.Need-add-n Inv-loop μ-loop
-add-n c = omega (arith, small (c .before .before .before .before .before .loop .n) (c .before .before .before .before .before .loop .at) (c .before .before .before .before .before .loop .inv .1) (omega arith))
+add-n c = omega (arith, small (c .before .before .before .before .loop .n) (c .before .before .before .before .loop .at) (c .before .before .before .before .loop .inv .1) (omega arith))
 
 add-at : tie.Need-add-at Inv-loop μ-loop
 add-at c = search needs
@@ -41,7 +41,7 @@ loop-less : tie.Need-loop-less Inv-loop μ-loop
 loop-less c = search needs
 
 loop-again : tie.Need-loop-again Inv-loop μ-loop
-loop-again c = (omega arith, one-more (c .before .before .before .before .before .loop .n) _ (c .before .before .before .before .before .loop .at) (c .before .before .before .before .before .loop .inv .1) (omega arith))
+loop-again c = (omega arith, one-more (c .before .before .before .before .loop .n) _ (c .before .before .before .before .loop .at) (c .before .before .before .before .loop .inv .1) (omega arith))
 
 returns-2 : tie.Need-returns-2 Inv-loop μ-loop
 returns-2 c = search needs
@@ -57,7 +57,7 @@ value-spec =
     digit-requires
     returns
     mul-n
-    wide8-requires
+    cast-n
     add-n
     add-at
     loop-less

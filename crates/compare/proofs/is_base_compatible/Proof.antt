@@ -4,9 +4,9 @@ use borrow.Author.Needs.{needs}
 use lib.ListN.{length}
 use mathlib.Core.Path.{_∙_, _≡_, sym}
 use native.Mathlib.Omega.{arith}
-use Rattle.equal.proofs.Equal.{ids-differ}
+use Rattle.equal_rules.proofs.Equal.{ids-differ}
 use Rattle.compare.proofs.Bases.{base-larger, base-smaller, met-found, met-lacks, met-padding}
-use Rattle.equal.specs.Equal.{fieldEq}
+use Rattle.equal_rules.specs.Equal.{fieldEq}
 use Rattle.compare.specs.Compare.{baseCompatible, met}
 use Rattle.field.specs.Field.{fieldAt, fieldsOf}
 use Rattle.layout.specs.Layout.{recordAt}

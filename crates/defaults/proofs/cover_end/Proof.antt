@@ -1,9 +1,8 @@
 -- The fields left decide.
 use Prim.Native.Nat.{_*_, _+_, _≤_}
 use Rattle.defaults.specs.Defaults.{coverEnd, holds}
-use Rattle.field.specs.Field.{fieldAt, fieldsOf}
+use Rattle.field.specs.Field.{fieldAt, fieldsOf, counts}
 use Rattle.lent.specs.Scan.{gather}
-use Rattle.plan.specs.Rule.{counts}
 use borrow.Author.Needs.{needs}
 use lib.ListN.{length}
 use mathlib.Core.Bool.{_&&_}

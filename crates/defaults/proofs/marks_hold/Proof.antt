@@ -7,7 +7,7 @@ use native.Mathlib.Omega.{arith}
 use Rattle.defaults.specs.Defaults.{markHolds}
 use Rattle.lent.proofs.Scan.{ends, goes, stops}
 use Rattle.lent.specs.Scan.{every, gather}
-use Rattle.plan.specs.Rule.{wantAt, wants}
+use Rattle.plan_rules.specs.Rule.{wantAt, wants}
 use Rattle.defaults.proofs.marks_hold.Statement.{statement}
 use Rattle.defaults.proofs.marks_hold.Tie as tie
 

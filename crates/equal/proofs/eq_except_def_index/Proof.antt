@@ -1,5 +1,5 @@
 use mathlib.Core.Path.{refl}
-use Rattle.equal.specs.Equal.{eqExceptDefIndex}
+use Rattle.equal_rules.specs.Equal.{eqExceptDefIndex}
 use Rattle.equal.proofs.eq_except_def_index.Statement.{statement}
 use Rattle.equal.proofs.eq_except_def_index.Tie as tie
 

@@ -1,7 +1,7 @@
 use borrow.Author.Needs.{needs}
 use borrow.Author.Tests.{not-false, not-true}
 use mathlib.Core.Path.{_∙_, sym}
-use Rattle.equal.specs.Equal.{fieldEq}
+use Rattle.equal_rules.specs.Equal.{fieldEq}
 use Rattle.equal.proofs.field_eq.Statement.{statement}
 use Rattle.equal.proofs.field_eq.Tie as tie
 

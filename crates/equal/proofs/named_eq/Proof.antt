@@ -3,7 +3,7 @@ use borrow.Author.Needs.{needs}
 use borrow.Author.Tests.{not-false, not-true}
 use mathlib.Core.Path.{_∙_, sym}
 use native.Mathlib.Omega.{arith}
-use Rattle.equal.proofs.Equal.{few-named}
+use Rattle.equal_rules.proofs.Equal.{few-named}
 use Rattle.equal.proofs.named_eq.Statement.{statement}
 use Rattle.equal.proofs.named_eq.Tie as tie
 

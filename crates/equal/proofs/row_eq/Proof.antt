@@ -1,6 +1,6 @@
 use borrow.Author.Needs.{needs}
 use mathlib.Core.Path.{_∙_, sym}
-use Rattle.equal.proofs.Equal.{ids-differ}
+use Rattle.equal_rules.proofs.Equal.{ids-differ}
 use Rattle.field.specs.Field.{fieldAt}
 use Rattle.equal.proofs.row_eq.Statement.{statement}
 use Rattle.equal.proofs.row_eq.Tie as tie

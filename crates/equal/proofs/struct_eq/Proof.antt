@@ -7,8 +7,8 @@ use mathlib.Core.List.{map}
 use mathlib.Core.Path.{_∙_, _≡_, ap, refl, sym}
 use native.Mathlib.Omega.{arith}
 use Rattle.limits.specs.Limits.{maxStructFields}
-use Rattle.equal.proofs.Equal.{counts-differ, order-ends, order-goes, order-stops, orders, sizes-differ}
-use Rattle.equal.specs.Equal.{eqExceptDefIndex, structEq}
+use Rattle.equal_rules.proofs.Equal.{counts-differ, order-ends, order-goes, order-stops, orders, sizes-differ}
+use Rattle.equal_rules.specs.Equal.{eqExceptDefIndex, structEq}
 use Rattle.field.specs.Field.{fieldAt}
 use Rattle.layout.specs.Layout.{structAt}
 use Rattle.lent.specs.Scan.{alike}

@@ -6,10 +6,10 @@ use native.Mathlib.Omega.{arith}
 use lib.ListN.{length, take, drop}
 use borrow.Author.Needs.{needs}
 use Rattle.limits.specs.Limits.{maxFields}
-use Rattle.hash.specs.Parts.{told}
-use Rattle.hash.specs.Walk.{walkFields, walkTable}
-use Rattle.hash.proofs.Walks.{taken, taken-walks, few-entered, walk-goes, walk-stops, walk-ends, walk-starts, too-deep}
-use Rattle.order.proofs.Placed.{placed}
+use Rattle.hash_rules.specs.Parts.{told}
+use Rattle.hash_rules.specs.Walk.{walkFields, walkTable}
+use Rattle.hash_rules.proofs.Walks.{taken, taken-walks, few-entered, walk-goes, walk-stops, walk-ends, walk-starts, too-deep}
+use Rattle.field.proofs.Placed.{placed}
 use Rattle.field.specs.Field.{fieldAt, fieldsOf}
 use Rattle.crc64.specs.Sum.{bytesStep}
 use Prim.Native.Nat.{ℕ, _<_}
@@ -22,10 +22,10 @@ use Rattle.hash.proofs.hash_table.Reads as hash-table
 use Rattle.hash.proofs.hash_table.Kinds as hash-table-kinds
 use Rattle.hash.proofs.+hash_field+hash_table.Lts-hash_table as hash-table-lts
 use Rattle.field.proofs.field_in.Reads as field-in-reads
-use Rattle.hash.proofs.visited.Reads as visited-reads
+use Rattle.hash_rules.proofs.visited.Reads as visited-reads
 use Rattle.layout.proofs.block.table_at.Reads as table-at-reads
 use Rattle.lent.proofs.wide16.Reads as wide16-reads
-use Rattle.order.proofs.by_offset.Reads as by-offset-reads
+use Rattle.field.proofs.order.by_offset.Reads as by-offset-reads
 use Rattle.hash.proofs.+hash_field+hash_table.{statement}
 use Rattle.hash.proofs.+hash_field+hash_table.Tie.{close}
 

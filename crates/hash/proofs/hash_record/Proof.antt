@@ -2,7 +2,7 @@
 use mathlib.Core.Path.{_∙_}
 use native.Mathlib.Omega.{arith}
 use borrow.Author.Needs.{needs}
-use Rattle.hash.proofs.Prints.{prints}
+use Rattle.hash_rules.proofs.Prints.{prints}
 use Rattle.field.specs.Field.{fieldsOf}
 use Rattle.hash.proofs.hash_record.Statement.{statement}
 use Rattle.hash.proofs.hash_record.Tie as tie

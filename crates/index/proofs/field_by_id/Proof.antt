@@ -4,11 +4,11 @@ use borrow.Author.Needs.{needs}
 use mathlib.Core.List.{map}
 use mathlib.Core.Path.{_≡_}
 use native.Mathlib.Omega.{arith}
-use Rattle.index.proofs.Lookups.{record-turn, records-end}
-use Rattle.index.specs.Index.{byId, fieldsOfRtype, hasId}
+use Rattle.index_rules.proofs.Lookups.{record-turn, records-end}
+use Rattle.index_rules.specs.Index.{byId, fieldsOfRtype, hasId}
 use Rattle.layout.specs.Layout.{recordAt}
 use Rattle.lent.specs.Scan.{last, places}
-use Rattle.index.specs.declared.Lookup.the-variants.{Def}
+use Rattle.index_rules.specs.declared.Lookup.the-variants.{Def}
 use Rattle.index.proofs.field_by_id.Statement.{statement}
 use Rattle.index.proofs.field_by_id.Tie as tie
 

@@ -3,7 +3,7 @@ use Prim.Native.Nat.{_<_}
 use borrow.Author.Needs.{needs}
 use mathlib.Core.Path.{_∙_, sym}
 use native.Mathlib.Omega.{arith}
-use Rattle.index.specs.Index.{byName}
+use Rattle.index_rules.specs.Index.{byName}
 use Rattle.index.proofs.field_by_name.Statement.{statement}
 use Rattle.index.proofs.field_by_name.Tie as tie
 

@@ -5,10 +5,10 @@ use lib.ListN.{length}
 use mathlib.Core.Path.{_≡_, refl}
 use native.Mathlib.Omega.{arith}
 use Rattle.field.specs.Field.{fieldAt, fieldsOf}
-use Rattle.index.specs.Index.{hasId}
+use Rattle.index_rules.specs.Index.{hasId}
 use Rattle.lent.proofs.Scan.{last-known, last-turn}
 use Rattle.lent.specs.Scan.{gather, last}
-use Rattle.index.specs.declared.Lookup.the-variants.{Def}
+use Rattle.index_rules.specs.declared.Lookup.the-variants.{Def}
 use Rattle.index.proofs.last_in.Statement.{statement}
 use Rattle.index.proofs.last_in.Tie as tie
 

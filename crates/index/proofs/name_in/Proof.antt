@@ -5,11 +5,11 @@ use lib.ListN.{length}
 use mathlib.Core.Path.{_≡_}
 use native.Mathlib.Omega.{arith}
 use Rattle.field.specs.Field.{fieldAt}
-use Rattle.index.proofs.Lookups.{fields-end, name-here, name-later, names-end}
-use Rattle.index.specs.Index.{hasName, nameIn, named}
+use Rattle.index_rules.proofs.Lookups.{fields-end, name-here, name-later, names-end}
+use Rattle.index_rules.specs.Index.{hasName, nameIn, named}
 use Rattle.layout.specs.Layout.{nameAt, recordAt}
 use Rattle.lent.specs.Scan.{first, gather}
-use Rattle.index.specs.declared.Lookup.the-variants.{Def, Missing}
+use Rattle.index_rules.specs.declared.Lookup.the-variants.{Def, Missing}
 use Rattle.index.proofs.name_in.Statement.{statement}
 use Rattle.index.proofs.name_in.Tie as tie
 

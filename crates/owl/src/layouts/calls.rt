@@ -1,8 +1,8 @@
 // The calls of the field cursor, on what is open.
 use crate::layouts::state;
 use crate::layouts::state::State;
-use builders::Placed;
-use builders::Times;
+use cursor_rules::Placed;
+use cursor_rules::Times;
 use limits::refusal;
 use owl_blocks::room;
 use owl_blocks::room::Room;

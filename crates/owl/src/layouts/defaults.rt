@@ -4,7 +4,6 @@ use crate::layouts::fault;
 use crate::layouts::state;
 use crate::layouts::state::State;
 use caseline::Parsed;
-use caseline::blanks;
 use caseline::put;
 use owl_blocks::room;
 use owl_blocks::room::Room;

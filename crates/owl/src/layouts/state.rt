@@ -1,7 +1,7 @@
 // What is known between two lines, and what is wrong with the text: numbers, by value.
 use crate::layouts::fault;
-use builders::FieldCursor;
-use layout::block::Holder;
+use cursor_rules::FieldCursor;
+use field::Holder;
 use owl_blocks::room;
 use owl_blocks::room::Names;
 use owl_blocks::room::Rows;

@@ -4,7 +4,6 @@ use crate::layouts::fault;
 use crate::layouts::state;
 use crate::layouts::state::State;
 use caseline::Parsed;
-use caseline::blanks;
 
 // What is no number of two bytes.
 pub const NONE: usize = 65536;

@@ -10,7 +10,7 @@ use Rattle.field.specs.Field.{fieldsOf}
 use Rattle.layout.specs.Layout.{recordAt}
 use Rattle.record_size.specs.Size.{recordSize}
 use Rattle.limits.specs.Limits.{maxBytes}
-use Rattle.plan.specs.Rule.{wants}
+use Rattle.plan_rules.specs.Rule.{wants}
 use Rattle.planner.proofs.Passing.{body-fits, header-fits, in-header, is-made, no-room, wrong-body}
 use Rattle.planner.proofs.between.Statement.{statement}
 use Rattle.planner.proofs.between.Tie as tie

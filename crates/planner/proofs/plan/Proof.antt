@@ -5,17 +5,17 @@ use mathlib.Core.Bool.{_&&_, false, true}
 use mathlib.Core.List.{[], _∷_}
 use mathlib.Core.Path.{_∙_, _≡_, sym}
 use native.Mathlib.Omega.{arith}
-use Rattle.admission.proofs.When.{admitted, front, rest}
-use Rattle.admission.specs.Admission.{layoutOk}
+use Rattle.admission_rules.proofs.When.{admitted, front, rest}
+use Rattle.admission_rules.specs.Admission.{layoutOk}
 use Rattle.layout.specs.Layout.{countOf}
 use Rattle.layout.specs.Shape.{shapeOk}
 use Rattle.planner.proofs.Passing.{both-there}
-use Rattle.admission.proofs.Records.{size-small}
+use Rattle.admission.proofs.Sizes.{size-small}
 use Rattle.layout.proofs.Shapes.{base-in-record, few-in-record}
 use Rattle.planner.specs.Planner.{afterPlan, plannedOf}
 use Rattle.planner.specs.declared.select.Selected.the-variants.{Record}
-use Rattle.table.specs.declared.Rule.the-variants.{Bounds}
-use Rattle.layout.specs.declared.block.Holder.the-variants.{Record}
+use Rattle.table_rules.specs.declared.Rule.the-variants.{Bounds}
+use Rattle.field.specs.declared.Holder.the-variants.{Record}
 use Rattle.planner.proofs.plan.Statement.{statement}
 use Rattle.planner.proofs.plan.Tie as tie
 

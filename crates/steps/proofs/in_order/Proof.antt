@@ -9,7 +9,7 @@ use Rattle.limits.specs.Limits.{maxSteps}
 use Rattle.field.specs.Field.{fieldsOf}
 use Rattle.coalesce.proofs.Onto.{joinOnto}
 use Rattle.steps.proofs.Planning.{first-step, has-default, joins-last, no-more, one-means, rest, stands-alone, two-means}
-use Rattle.plan.specs.Rule.{wantAt}
+use Rattle.plan_rules.specs.Rule.{wantAt}
 use Rattle.coalesce.specs.Joins.{joinAll}
 use Rattle.steps.specs.Steps.{stepsOf}
 use Rattle.steps.proofs.in_order.Statement.{statement}

@@ -5,9 +5,9 @@ use mathlib.Core.List.{List}
 use mathlib.Core.Path.{_∙_, ap}
 use native.Mathlib.Omega.{arith}
 use Rattle.field.specs.Field.{fieldsOf}
-use Rattle.order.proofs.Mapped.{in-order}
-use Rattle.order.proofs.Placed.{placed}
-use Rattle.plan.specs.Rule.{Want, wantAt}
+use Rattle.field.proofs.Mapped.{in-order}
+use Rattle.field.proofs.Placed.{placed}
+use Rattle.plan_rules.specs.Rule.{Want, wantAt}
 use Rattle.coalesce.specs.Joins.{joinAll}
 use Rattle.steps.specs.Steps.{offsetOfWant, plannedSteps, stepsOf}
 use Rattle.steps.proofs.planned.Statement.{statement}

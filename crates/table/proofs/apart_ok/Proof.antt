@@ -3,8 +3,8 @@ use mathlib.Core.Path.{sym, ap, _∙_}
 use mathlib.Core.List.{List}
 use Rattle.field.specs.declared.FieldDef.{FieldDef}
 use borrow.Author.Needs.{needs}
-use Rattle.table.specs.Parts.{chain}
-use Rattle.table.proofs.Chained.{chained}
+use Rattle.table_rules.specs.Parts.{chain}
+use Rattle.table_rules.proofs.Chained.{chained}
 use Rattle.field.specs.Field.{fieldsOf}
 use Rattle.table.proofs.apart_ok.Statement.{statement}
 use Rattle.table.proofs.apart_ok.Tie as tie

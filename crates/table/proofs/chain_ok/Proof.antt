@@ -5,8 +5,8 @@ use Prim.Native.Nat.{_-_, _≤_, _<_}
 use native.Mathlib.Omega.{arith}
 use lib.ListN.{take, drop}
 use borrow.Author.Needs.{needs}
-use Rattle.table.specs.Parts.{chain}
-use Rattle.table.proofs.Chained.{chain-stops, chain-goes, chain-ends}
+use Rattle.table_rules.specs.Parts.{chain}
+use Rattle.table_rules.proofs.Chained.{chain-stops, chain-goes, chain-ends}
 use Rattle.field.specs.Field.{fieldAt}
 use Rattle.table.proofs.chain_ok.Statement.{statement}
 use Rattle.table.proofs.chain_ok.Tie as tie

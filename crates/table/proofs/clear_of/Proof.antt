@@ -3,7 +3,7 @@ use mathlib.Core.Path.{_≡_, refl}
 use Prim.Native.Nat.{_+_, _*_}
 use native.Mathlib.Omega.{arith}
 use borrow.Author.Needs.{needs}
-use Rattle.table.specs.Table.{clearOf}
+use Rattle.table_rules.specs.Table.{clearOf}
 use Rattle.lent.specs.Scan.{gather, every}
 use Rattle.lent.proofs.Scan.{stops, goes, ends}
 use Rattle.field.specs.Field.{fieldAt}

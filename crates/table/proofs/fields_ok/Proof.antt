@@ -5,7 +5,7 @@ use native.Mathlib.Omega.{arith}
 use lib.ListN.{length}
 use borrow.Author.Tests.{not-true, not-false}
 use borrow.Author.Needs.{needs}
-use Rattle.table.specs.Parts.{fieldOk}
+use Rattle.table_rules.specs.Parts.{fieldOk}
 use Rattle.lent.specs.Scan.{gather, every}
 use Rattle.lent.proofs.Scan.{stops, goes, ends}
 use Rattle.field.specs.Field.{fieldAt, fieldsOf}

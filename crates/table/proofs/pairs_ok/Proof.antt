@@ -4,8 +4,8 @@ use Prim.Native.Nat.{_+_, _*_, _/_}
 use native.Mathlib.Omega.{arith}
 use lib.ListN.{length}
 use borrow.Author.Tests.{not-true, not-false}
-use Rattle.table.specs.Table.{apart}
-use Rattle.table.proofs.Pairs.{pairs-stop, pairs-go, pairs-end}
+use Rattle.table_rules.specs.Table.{apart}
+use Rattle.table_rules.proofs.Pairs.{pairs-stop, pairs-go, pairs-end}
 use Rattle.lent.specs.Scan.{gather}
 use Rattle.field.specs.Field.{fieldAt, fieldsOf}
 use Rattle.table.proofs.pairs_ok.Statement.{statement}

@@ -7,8 +7,8 @@ use borrow.Author.Tests.{not-true, not-false}
 use borrow.Author.Needs.{needs}
 use Rattle.lent.specs.Scan.{gather}
 use Rattle.field.specs.Field.{fieldAt, fieldsOf}
-use Rattle.table.specs.Parts.{tidy}
-use Rattle.table.proofs.Tidy.{tidy-stops, tidy-goes, tidy-ends}
+use Rattle.table_rules.specs.Parts.{tidy}
+use Rattle.table_rules.proofs.Tidy.{tidy-stops, tidy-goes, tidy-ends}
 use Rattle.table.proofs.tidy_ok.Statement.{statement}
 use Rattle.table.proofs.tidy_ok.Tie as tie
 

@@ -5,7 +5,7 @@ use mir.Syntax.{w8}
 use mir.Val.{SFits}
 use mir.ValLaws.{toZ-ofZ}
 use native.Mathlib.Omega.{arith}
-use Rattle.builders.specs.Cursor.{rowOf}
+use Rattle.cursor_rules.specs.Cursor.{rowOf}
 use Rattle.field.specs.Field.{byteOf}
 use mir.Syntax.{w8}
 use mir.Val.{SFits}

@@ -3,7 +3,7 @@ use borrow.Author.Needs.{needs}
 use lib.ListN.{length}
 use native.Mathlib.Omega.{arith}
 use Rattle.lent.proofs.Stored.{whole}
-use Rattle.builders.specs.Cursor.{slotOf}
+use Rattle.cursor_rules.specs.Cursor.{slotOf}
 use Rattle.builders.proofs.bytes.slot.Statement.{statement}
 use Rattle.builders.proofs.bytes.slot.Tie as tie
 

@@ -1,8 +1,8 @@
 -- The least multiple not below, with a step of at least 1.
 use mathlib.Core.Path.{refl}
 use native.Mathlib.Omega.{arith}
-use Rattle.builders.proofs.Align.{up-from, up-to}
-use Rattle.builders.specs.Cursor.{fits}
+use Rattle.cursor_rules.proofs.Align.{up-from, up-to}
+use Rattle.cursor_rules.specs.Cursor.{fits}
 use Rattle.builders.proofs.placing.align_up.Statement.{statement}
 use Rattle.builders.proofs.placing.align_up.Tie as tie
 

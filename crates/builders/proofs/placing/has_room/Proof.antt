@@ -4,7 +4,7 @@ use borrow.Author.Needs.{needs}
 use borrow.Author.Tests.{lt-leb}
 use mathlib.Core.Path.{_≡_}
 use native.Mathlib.Omega.{arith}
-use Rattle.builders.specs.Cursor.{roomIn}
+use Rattle.cursor_rules.specs.Cursor.{roomIn}
 use Rattle.lent.proofs.Bytes.{fits-by-difference}
 use Rattle.builders.proofs.placing.has_room.Statement.{statement}
 use Rattle.builders.proofs.placing.has_room.Tie as tie

@@ -4,7 +4,7 @@ use mir.Syntax.{w8}
 use mir.Val.{SFits}
 use mir.ValLaws.{toZ-ofZ}
 use native.Mathlib.Omega.{arith}
-use Rattle.builders.specs.Cursor.{laid}
+use Rattle.cursor_rules.specs.Cursor.{laid}
 use mir.Syntax.{w8}
 use mir.Val.{SFits}
 use Rattle.builders.proofs.placing.laid_field.Statement.{statement}

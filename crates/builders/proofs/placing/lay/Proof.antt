@@ -5,9 +5,9 @@ use borrow.Author.Tests.{not-false, not-true}
 use mathlib.Core.Bool.{false, true}
 use mathlib.Core.Path.{_∙_, _≡_, sym}
 use native.Mathlib.Omega.{arith}
-use Rattle.builders.proofs.Places.{lays, lays-not, then-push}
-use Rattle.builders.proofs.Rooms.{room-there}
-use Rattle.builders.specs.Cursor.{building, fits, gaps, room}
+use Rattle.cursor_rules.proofs.Places.{lays, lays-not, then-push}
+use Rattle.cursor_rules.proofs.Rooms.{room-there}
+use Rattle.cursor_rules.specs.Cursor.{building, fits, gaps, room}
 use Rattle.field.specs.Field.{endOf}
 use Rattle.builders.proofs.placing.lay.Statement.{statement}
 use Rattle.builders.proofs.placing.lay.Tie as tie

@@ -4,8 +4,8 @@ use borrow.Author.Tests.{not-false, not-true}
 use mathlib.Core.Bool.{false, true}
 use mathlib.Core.Path.{_∙_, _≡_, sym}
 use native.Mathlib.Omega.{arith}
-use Rattle.builders.proofs.Rooms.{behind, moved, room-there, unmoved}
-use Rattle.builders.specs.Cursor.{building, fits, gaps, room}
+use Rattle.cursor_rules.proofs.Rooms.{behind, moved, room-there, unmoved}
+use Rattle.cursor_rules.specs.Cursor.{building, fits, gaps, room}
 use Rattle.builders.proofs.placing.move_to.Statement.{statement}
 use Rattle.builders.proofs.placing.move_to.Tie as tie
 

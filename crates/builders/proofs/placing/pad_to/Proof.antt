@@ -3,7 +3,7 @@ use borrow.Author.Needs.{needs}
 use borrow.Author.Tests.{le-ltb, lt-ltb}
 use mathlib.Core.Path.{_∙_, _≡_}
 use native.Mathlib.Omega.{arith}
-use Rattle.builders.specs.Cursor.{gaps, padTo}
+use Rattle.cursor_rules.specs.Cursor.{gaps, padTo}
 use Rattle.builders.proofs.placing.pad_to.Statement.{statement}
 use Rattle.builders.proofs.placing.pad_to.Tie as tie
 

@@ -4,8 +4,8 @@ use borrow.Author.Tests.{not-false, not-true}
 use mathlib.Core.Bool.{_&&_, false, true}
 use mathlib.Core.Path.{_∙_, _≡_}
 use native.Mathlib.Omega.{arith}
-use Rattle.builders.proofs.Places.{bad-call, bad-shape, past, places-it}
-use Rattle.builders.specs.Cursor.{building, sizeOk}
+use Rattle.cursor_rules.proofs.Places.{bad-call, bad-shape, past, places-it}
+use Rattle.cursor_rules.specs.Cursor.{building, sizeOk}
 use Rattle.builders.proofs.placing.place.Statement.{statement}
 use Rattle.builders.proofs.placing.place.Tie as tie
 

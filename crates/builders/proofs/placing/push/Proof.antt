@@ -1,9 +1,9 @@
 -- A row and a slot, each stored whole.
 use borrow.Author.Needs.{needs}
 use mathlib.Core.Path.{_≡_}
-use Rattle.builders.proofs.Stores.{row-fits, slot-fits}
+use Rattle.cursor_rules.proofs.Stores.{row-fits, slot-fits}
 use Rattle.lent.proofs.Stored.{whole}
-use Rattle.builders.specs.Cursor.{push, rowOf, slotOf}
+use Rattle.cursor_rules.specs.Cursor.{push, rowOf, slotOf}
 use Rattle.lent.specs.Bytes.{window}
 use Rattle.builders.proofs.placing.push.Statement.{statement}
 use Rattle.builders.proofs.placing.push.Tie as tie

@@ -3,8 +3,8 @@ use mathlib.Core.Path.{_∙_, sym}
 use native.Mathlib.Omega.{arith}
 use Rattle.field.specs.Field.{fieldsOf}
 use Rattle.places.proofs.Firsts.{gives, inside, no-place}
-use Rattle.plan.specs.Rule.{sameId, stepFor}
-use Rattle.plan.specs.declared.rule.Carried.the-variants.{Default}
+use Rattle.plan_rules.specs.Rule.{sameId, stepFor}
+use Rattle.plan_rules.specs.declared.Carried.the-variants.{Default}
 use Rattle.plan.proofs.rule.from_first.Statement.{statement}
 use Rattle.plan.proofs.rule.from_first.Tie as tie
 

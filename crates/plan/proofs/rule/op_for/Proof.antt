@@ -1,7 +1,7 @@
 use borrow.Author.Needs.{needs}
 use borrow.Author.Tests.{le-leb, lt-leb}
 use mathlib.Core.Path.{_∙_, sym}
-use Rattle.plan.specs.Rule.{stepFor}
+use Rattle.plan_rules.specs.Rule.{stepFor}
 use Rattle.plan.proofs.rule.op_for.Statement.{statement}
 use Rattle.plan.proofs.rule.op_for.Tie as tie
 

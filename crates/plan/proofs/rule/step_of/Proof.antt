@@ -1,7 +1,7 @@
 use borrow.Author.Needs.{needs}
 use borrow.Author.Tests.{not-false, not-true}
 use mathlib.Core.Path.{_∙_, sym}
-use Rattle.plan.specs.Rule.{stepOf}
+use Rattle.plan_rules.specs.Rule.{stepOf}
 use Rattle.plan.proofs.rule.step_of.Statement.{statement}
 use Rattle.plan.proofs.rule.step_of.Tie as tie
 

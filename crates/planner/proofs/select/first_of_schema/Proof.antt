@@ -9,7 +9,7 @@ use Rattle.lent.proofs.Scan.{first-here, first-later, first-nowhere}
 use Rattle.lent.specs.Scan.{first, places}
 use Rattle.planner.specs.Select.{ofSchema}
 use Rattle.planner.specs.declared.select.Selected.the-variants.{Record}
-use Rattle.layout.specs.declared.block.Holder.the-variants.{Record}
+use Rattle.field.specs.declared.Holder.the-variants.{Record}
 use Rattle.planner.proofs.select.first_of_schema.Statement.{statement}
 use Rattle.planner.proofs.select.first_of_schema.Tie as tie
 

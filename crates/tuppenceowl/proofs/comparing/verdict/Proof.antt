@@ -4,11 +4,11 @@ use borrow.Author.Tests.{le-ltb, lt-ltb}
 use mathlib.Core.List.{[], _∷_}
 use mathlib.Core.Path.{_∙_, sym}
 use native.Mathlib.Omega.{arith}
-use Rattle.admission.proofs.When.{admitted, front, rest}
+use Rattle.admission_rules.proofs.When.{admitted, front, rest}
 use Rattle.layout.proofs.Shapes.{shaped-few}
 use Rattle.layout.specs.Shape.{shapeOk}
 use Rattle.tuppenceowl.specs.Comparing.{judgedOf}
-use Rattle.admission.proofs.When.{admitted, front, rest}
+use Rattle.admission_rules.proofs.When.{admitted, front, rest}
 use Rattle.tuppenceowl.proofs.comparing.verdict.Statement.{statement}
 use Rattle.tuppenceowl.proofs.comparing.verdict.Tie as tie
 

@@ -4,7 +4,7 @@ use native.Mathlib.Omega.{arith}
 use borrow.Author.Tests.{eq-eqb, ne-eqb}
 use borrow.Author.Needs.{needs}
 use Rattle.tuppenceowl.proofs.Inside.{hash-inside}
-use Rattle.hash.proofs.Walks.{taken}
+use Rattle.hash_rules.proofs.Walks.{taken}
 use Rattle.tuppenceowl.proofs.hashing.boot_check.Statement.{statement}
 use Rattle.tuppenceowl.proofs.hashing.boot_check.Tie as tie
 

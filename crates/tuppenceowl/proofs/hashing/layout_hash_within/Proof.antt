@@ -3,15 +3,15 @@ use mathlib.Core.Path.{sym, _∙_}
 use Prim.Native.Nat.{_<_}
 use native.Mathlib.Omega.{arith}
 use borrow.Author.Tests.{lt-ltb, le-ltb}
-use Rattle.layout.specs.declared.block.Holder.the-variants.{Record}
+use Rattle.field.specs.declared.Holder.the-variants.{Record}
 use borrow.Author.Needs.{needs}
 use Rattle.tuppenceowl.specs.Answers.{summedOf}
 use Rattle.layout.specs.Layout.{countOf}
 use Rattle.layout.proofs.Shapes.{few-in-record, shaped-few}
-use Rattle.admission.proofs.When.{admitted, front}
+use Rattle.admission_rules.proofs.When.{admitted, front}
 use mathlib.Core.List.{[], _∷_}
 use Rattle.layout.specs.Shape.{shapeOk}
-use Rattle.hash.proofs.Walks.{taken}
+use Rattle.hash_rules.proofs.Walks.{taken}
 use Rattle.tuppenceowl.proofs.hashing.layout_hash_within.Statement.{statement}
 use Rattle.tuppenceowl.proofs.hashing.layout_hash_within.Tie as tie
 

@@ -1,4 +1,4 @@
-use Rattle.calls.specs.Calls.{likeOf}
+use Rattle.calls_rules.specs.Calls.{likeOf}
 use Rattle.tuppenceowl_c.proofs.Telling.{telling}
 use borrow.Author.Needs.{needs}
 use Rattle.tuppenceowl_c.proofs.building.owl_cursor_like.Statement.{statement}

@@ -1,4 +1,4 @@
-use Rattle.calls.specs.Calls.{scalarOf}
+use Rattle.calls_rules.specs.Calls.{scalarOf}
 use Rattle.tuppenceowl_c.proofs.Telling.{telling}
 use borrow.Author.Needs.{needs}
 use Rattle.tuppenceowl_c.proofs.building.owl_cursor_scalar.Statement.{statement}

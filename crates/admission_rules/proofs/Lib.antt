@@ -1,0 +1,3 @@
+pub mod When
+pub mod Tidy
+pub mod Records

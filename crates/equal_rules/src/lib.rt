@@ -1,0 +1,1 @@
+// What makes two tables equal, and laws about it: no code.

@@ -1,0 +1,7 @@
+// What the lookups find, and laws about it.
+use field::FieldDef;
+
+pub enum Lookup {
+    Def(FieldDef),
+    Missing,
+}

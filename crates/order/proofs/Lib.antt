@@ -1,4 +1,0 @@
-pub mod Placing
-pub mod Mapped
-pub mod Kept
-pub mod Placed
