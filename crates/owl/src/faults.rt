@@ -81,11 +81,10 @@ fn quote(line: &[u8], k: usize) {
         return owl_say::complain(b"at the end: ");
     }
     owl_say::complain(b"'");
-    owl_say::complain(lent::part(word, 0, lent::lesser(word.len(), QUOTED)));
-    if QUOTED < word.len() {
-        owl_say::complain(b"..");
-    }
-    owl_say::complain(b"': ");
+    owl_say::complain(lent::window(word, 0, QUOTED));
+    // Two dots, if the word is longer.
+    let from = if QUOTED < word.len() { 0 } else { 2 };
+    owl_say::complain(lent::window(b"..': ", from, 5));
 }
 
 pub fn say(text: &[u8], s: State) {

@@ -1,5 +1,4 @@
 // A text of layouts, as people write them (docs/OWL.md): items, one a line, read into the bytes that the public calls take.
-mod calls;
 mod defaults;
 pub mod fault;
 mod fields;

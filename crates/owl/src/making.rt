@@ -69,20 +69,19 @@ fn chosen(room: &Room, s: State) -> Selected {
 
 // ---- the plan
 
-// The default bytes behind the header of a target record.
+// The default bytes behind the header of a target record; one that is too long has none.
 fn body(room: &Room, s: State, to: u8) -> &[u8] {
-    let cat = room::catalogue(room);
-    let into = layout(room, state::TARGET, s.target_end);
     let number = lent::wide8(to);
-    let from = room::BODIES_AT + limits::MAX_BYTES * number;
-    if let Sized::Bytes(size) = tuppenceowl::record_size(cat, into, number) {
-        if s.header <= size {
-            if size <= limits::MAX_BYTES {
-                return lent::part(room, from + s.header, size - s.header);
-            }
+    let into = layout(room, state::TARGET, s.target_end);
+    let header = lent::lesser(s.header, limits::MAX_BYTES);
+    let mut n = 0;
+    if let Sized::Bytes(size) = tuppenceowl::record_size(room::catalogue(room), into, number) {
+        if size <= limits::MAX_BYTES {
+            n = lent::greater(size, header) - header;
         }
     }
-    lent::part(room, 0, 0)
+    let from = room::BODIES_AT + limits::MAX_BYTES * number;
+    lent::part(room, from + header, n)
 }
 
 fn plan_to(room: &Room, s: State, to: u8, slot: &mut Slot) -> bool {

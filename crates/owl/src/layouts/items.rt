@@ -1,7 +1,5 @@
 // The items that are no fields and open nothing.
 use crate::layouts;
-use crate::layouts::calls;
-use crate::layouts::calls::Call;
 use crate::layouts::fault;
 use crate::layouts::state;
 use crate::layouts::state::State;
@@ -13,12 +11,17 @@ use owl_blocks::pack;
 use owl_blocks::room;
 use owl_blocks::room::Room;
 use tuppenceowl::Admitted;
+use tuppenceowl::building;
 
 pub fn base(line: &[u8], room: &Room, s: State) -> State {
     if blanks::words(line) != 1 {
         return state::bad(s, 1, fault::TOO_MANY);
     }
-    calls::made(Call::FinishBase, b"", 0, room, s)
+    let mut rows = s.rows;
+    let mut names = s.names;
+    let cat = room::catalogue(room);
+    let answer = building::finish_base(cat, &mut rows, &mut names, s.cursor);
+    state::after(answer, rows, names, 0, s)
 }
 
 // One number: where the next field stands, the header's length, or the schema that is wanted.
@@ -29,7 +32,13 @@ pub fn numbered(item: usize, line: &[u8], room: &Room, s: State) -> State {
     }
     let mut next = s;
     match item {
-        layouts::AT => return calls::made(Call::At(n), b"", 1, room, s),
+        layouts::AT => {
+            let mut rows = s.rows;
+            let mut names = s.names;
+            let cat = room::catalogue(room);
+            let answer = building::at(cat, &mut rows, &mut names, s.cursor, n);
+            return state::after(answer, rows, names, 1, s);
+        }
         layouts::HEADER => {
             next.header = n;
             next.header_line = s.line;

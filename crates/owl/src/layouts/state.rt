@@ -1,7 +1,9 @@
 // What is known between two lines, and what is wrong with the text: numbers, by value.
 use crate::layouts::fault;
 use cursor_rules::FieldCursor;
+use cursor_rules::Placed;
 use field::Holder;
+use limits::refusal;
 use owl_blocks::room;
 use owl_blocks::room::Names;
 use owl_blocks::room::Rows;
@@ -84,4 +86,18 @@ pub fn bad(s: State, word: usize, why: usize) -> State {
     next.word = word;
     next.why = why;
     next
+}
+
+// After the field cursor's answer to a word of the line.
+pub fn after(answer: Placed, rows: Rows, names: Names, word: usize, s: State) -> State {
+    match answer {
+        Placed::At(cursor) => {
+            let mut next = s;
+            next.cursor = cursor;
+            next.rows = rows;
+            next.names = names;
+            next
+        }
+        Placed::Refused(r) => bad(s, word, refusal::number(r) as usize),
+    }
 }

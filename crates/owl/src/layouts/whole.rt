@@ -1,6 +1,4 @@
 // What opens a record or a struct, and what closes it: the cursor finishes it, and it is packed into its block.
-use crate::layouts::calls;
-use crate::layouts::calls::Call;
 use crate::layouts::fault;
 use crate::layouts::state;
 use crate::layouts::state::State;
@@ -11,6 +9,9 @@ use owl_blocks::pack;
 use owl_blocks::room;
 use owl_blocks::room::Room;
 use tuppenceowl::building;
+
+// The most records of a layout, and as many structs.
+const MOST: u8 = limits::MAX_RECORDS as u8;
 
 // ---- opening
 
@@ -25,7 +26,7 @@ fn opened(s: State, open: u8, holder: Holder) -> State {
 }
 
 // The words of a line that opens one more, where `count` are.
-fn checked(line: &[u8], words: usize, count: u8, most: usize, s: State) -> State {
+fn checked(line: &[u8], words: usize, count: u8, s: State) -> State {
     let counted = words::counted(line, words, s);
     if counted.why != fault::FINE {
         return counted;
@@ -33,14 +34,14 @@ fn checked(line: &[u8], words: usize, count: u8, most: usize, s: State) -> State
     if limits::MAX_NAME < blanks::word(line, 1).len() {
         return state::bad(s, 1, fault::LONG_NAME);
     }
-    if most <= count as usize {
+    if MOST <= count {
         return state::bad(s, 0, fault::FULL_LAYOUT);
     }
     s
 }
 
 pub fn open_record(line: &[u8], room: &mut Room, side: u8, count: u8, s: State) -> State {
-    let fine = checked(line, 4, count, limits::MAX_RECORDS, s);
+    let fine = checked(line, 4, count, s);
     if fine.why != fault::FINE {
         return fine;
     }
@@ -59,7 +60,7 @@ pub fn open_record(line: &[u8], room: &mut Room, side: u8, count: u8, s: State) 
 
 // A struct belongs to both layouts.
 pub fn open_struct(line: &[u8], room: &mut Room, s: State) -> State {
-    let fine = checked(line, 2, s.structs, limits::MAX_STRUCTS, s);
+    let fine = checked(line, 2, s.structs, s);
     if fine.why != fault::FINE {
         return fine;
     }
@@ -82,17 +83,18 @@ fn closed(room: &mut Room, s: State) -> State {
     let size = s.cursor.cursor;
     let open = s.open;
     let mut next = s;
+    next.open = state::NOTHING;
     match open {
         state::SOURCE => {
-            let end = pack::close_record(room, open, s.sources, s.source_end, base, table, titles);
-            next.source_end = end;
-            next.sources = s.sources % 255 + 1;
+            let k = s.sources;
+            next.source_end = pack::close_record(room, open, k, s.source_end, base, table, titles);
+            next.sources = k % 255 + 1;
         }
         state::TARGET => {
-            pack::put_line(room, s.targets, s.opened);
-            let end = pack::close_record(room, open, s.targets, s.target_end, base, table, titles);
-            next.target_end = end;
-            next.targets = s.targets % 255 + 1;
+            let k = s.targets;
+            pack::put_line(room, k, s.opened);
+            next.target_end = pack::close_record(room, open, k, s.target_end, base, table, titles);
+            next.targets = k % 255 + 1;
         }
         _ => {
             let k = s.structs;
@@ -101,7 +103,6 @@ fn closed(room: &mut Room, s: State) -> State {
             next.structs = k % 255 + 1;
         }
     }
-    next.open = state::NOTHING;
     next
 }
 
@@ -113,12 +114,21 @@ fn at_opening(s: State, why: usize) -> State {
     next
 }
 
+fn finish(room: &Room, s: State) -> State {
+    let ids = [0u16; 0];
+    let mut rows = s.rows;
+    let mut names = s.names;
+    let cat = room::catalogue(room);
+    let answer = building::finish(cat, &mut rows, &mut names, s.cursor, &ids);
+    state::after(answer, rows, names, 1, s)
+}
+
 // Finishes what is open.
 pub fn close(room: &mut Room, s: State) -> State {
     if s.open == state::NOTHING {
         return s;
     }
-    let finished = calls::made(Call::Finish, b"", 1, room, s);
+    let finished = finish(room, s);
     if finished.why != fault::FINE {
         return at_opening(s, finished.why);
     }
