@@ -1,11 +1,11 @@
 // A field is pushed, a gap is filled, a field is placed: what every call goes through.
 ghost use mathlib.Core.Path.{_≡_};
-ghost use mathlib.Core.Bool.{true, _&&_};
+ghost use mathlib.Core.Bool.{_&&_};
 ghost use lib.Dec.{leb};
-ghost use Prim.Native.Nat.{_+_, _*_, _/_, _≤_, _<_, min};
+ghost use Prim.Native.Nat.{_+_, _*_, _/_, _≤_, _<_};
 ghost use lib.ListN.{length};
 ghost use Rattle.limits.specs.Limits.{maxBytes, maxFields, maxName};
-ghost use Rattle.cursor_rules.specs.Cursor.{alignUp, paddingField, building, outcome, push, padTo, gaps, roomIn, room, fits, moveTo, sizeOk, laid, lay, place};
+ghost use Rattle.cursor_rules.specs.Cursor.{alignUp, paddingField, building, outcome, push, padTo, gaps, roomIn, room, moveTo, sizeOk, laid, lay, place};
 use crate::bytes;
 use cursor_rules::FieldCursor;
 use cursor_rules::Placed;

@@ -1,12 +1,12 @@
 // The calls of dbn's FieldCursor: what each takes, how it aligns, and the field that it places.
 ghost use mathlib.Core.Path.{_≡_};
 ghost use mathlib.Core.Bool.{cond};
-ghost use Prim.Native.Nat.{_+_, _*_, _≤_, _<_, min, max};
+ghost use Prim.Native.Nat.{_+_, _*_, _≤_, _<_};
 ghost use Rattle.limits.specs.Limits.{maxBytes};
 ghost use Rattle.catalogue.specs.Catalogue.{widthOf};
 ghost use Rattle.field.specs.Field.{fieldsOf};
 ghost use Rattle.layout.specs.Layout.{structAt};
-ghost use Rattle.cursor_rules.specs.Cursor.{building, outcome, alignUp};
+ghost use Rattle.cursor_rules.specs.Cursor.{building, outcome};
 ghost use Rattle.calls_rules.specs.Calls.{takesScalar, scaleOf, scalarOf, stringOf, likeOf, widest, timesOf, timesFlag, nestedSize, nestedOf, noted, notedIn, baseEnd, finishBaseOf, endedOf};
 use builders::placing;
 use cursor_rules::FieldCursor;

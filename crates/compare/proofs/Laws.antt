@@ -1,13 +1,11 @@
 -- Laws of the verdict. Assumes nothing.
-use mathlib.Core.Path.{_≡_, refl, sym, ap, _∙_}
-use mathlib.Core.Bool.{Bool, true, false, cond, not, _&&_, _||_}
+use mathlib.Core.Path.{_≡_, refl, ap, _∙_}
+use mathlib.Core.Bool.{Bool, true, false, _||_}
 use mathlib.Core.List.{List, [], _∷_}
 use Prim.Native.Nat.{ℕ}
-use borrow.Author.Tests.{eq-eqb, le-leb}
-use native.Mathlib.Nat.{le-refl}
-use lib.Dec.{leb, eqb}
+use borrow.Author.Tests.{eq-eqb}
 use Rattle.lent.specs.Scan.{every, some}
-use Rattle.field.specs.Field.{fieldsOf, isPadding}
+use Rattle.field.specs.Field.{fieldsOf}
 use Rattle.field.specs.declared.FieldDef.{FieldDef}
 use Rattle.layout.specs.Layout.{RecordLayout, recordAt}
 use Rattle.layout.specs.Find.{firstOf}

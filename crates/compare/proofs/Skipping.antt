@@ -1,8 +1,8 @@
 -- A turn of the loop that passes over four fields of other ids. Assumes nothing.
-use mathlib.Core.Path.{_≡_, refl, sym, ap, _∙_}
-use mathlib.Core.Bool.{Bool, false}
+use mathlib.Core.Path.{_≡_, ap}
+use mathlib.Core.Bool.{false}
 use mathlib.Core.List.{List}
-use Prim.Native.Nat.{ℕ, zero, suc, _+_, _-_, _*_, _/_, _≤_, _<_}
+use Prim.Native.Nat.{ℕ, _+_, _-_, _*_, _/_, _<_}
 use native.Mathlib.Omega.{arith}
 use borrow.Author.Tests.{eqb-false}
 use lib.Dec.{eqb}
@@ -10,7 +10,6 @@ use lib.ListN.{length}
 use Rattle.lent.specs.Scan.{gather, some}
 use Rattle.lent.proofs.Scan.{seeks}
 use Rattle.field.specs.Field.{fieldAt, fieldsOf}
-use Rattle.field.specs.declared.FieldDef.{FieldDef}
 use Rattle.compare.specs.Parts.{Skips}
 
 pub skips-none : (t : List ℕ) (id : ℕ) → Skips t id 0

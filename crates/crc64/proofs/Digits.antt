@@ -6,7 +6,6 @@ use native.Mathlib.Nat.{le-of-suc-le-suc, not-suc-le-zero}
 use native.Mathlib.Omega.{arith}
 use lib.Bits.{bitXor, differ, xor-comm, xor-zero-l, xor-zero-r, xor-shifted}
 use lib.ListN.{getD}
-use Rattle.lent.specs.Scan.{gather}
 use Rattle.crc64.specs.Sum.{empty, shift, shifts, digitTable}
 use Rattle.crc64.proofs.Xor.{xor-assoc, xor-half, xor-low}
 use Rattle.crc64.proofs.Shifts.{shift-product, shifts-above}

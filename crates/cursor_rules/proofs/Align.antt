@@ -1,6 +1,6 @@
 -- The least multiple that is not below a number. Assumes nothing.
 use mathlib.Core.Path.{_≡_}
-use Prim.Native.Nat.{ℕ, _+_, _-_, _*_, _/_, _%_, _^_, _≤_, _<_, max}
+use Prim.Native.Nat.{ℕ, _+_, _-_, _*_, _%_, _^_, _≤_, _<_, max}
 use native.Mathlib.Nat.{div-add-mod', mod-lt, mul-le-mul-left, le-of-lt}
 use native.Mathlib.Omega.{arith}
 use Rattle.cursor_rules.specs.Cursor.{alignUp}

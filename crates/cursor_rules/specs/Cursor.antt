@@ -1,6 +1,6 @@
 -- The field cursor: its state, the table and the names that it fills, and what it is to push a field, to fill a gap and to place a field.
 use Prim.Native.Nat.{ℕ, _+_, _-_, _*_, _/_, min, max}
-use mathlib.Core.Bool.{Bool, true, false, cond, not, _&&_, _||_}
+use mathlib.Core.Bool.{Bool, false, cond, not, _&&_, _||_}
 use mathlib.Core.List.{List, [], _∷_, _++_}
 use lib.Bits.{bitOr}
 use lib.Dec.{leb, ltb, eqb}

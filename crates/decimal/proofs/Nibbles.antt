@@ -1,10 +1,10 @@
 -- Bytes in hex: how long they are, a turn of each loop, and that what is written is read back. Assumes nothing.
-use mathlib.Core.Path.{_≡_, refl, sym, ap, _∙_}
+use mathlib.Core.Path.{_≡_, refl}
 use mathlib.Core.Bool.{Bool, true, false, cond, _&&_}
 use mathlib.Core.List.{List, [], _∷_, _++_}
 use Prim.Native.Nat.{ℕ, zero, suc, _+_, _-_, _*_, _/_, _%_, _≤_, _<_}
 use native.Mathlib.Omega.{arith}
-use lib.ListN.{length, getD, take, drop, set, length-take, length-drop}
+use lib.ListN.{length, take, drop, set}
 use lib.Seq.{sets, getD-drop, drop-drop}
 use lib.Dec.{ltb, eqb}
 use borrow.Author.Tests.{ltb-true, ltb-false}
@@ -12,7 +12,6 @@ use Rattle.lent.specs.Bytes.{byteAt, window}
 use Rattle.lent.specs.Scan.{alike, every}
 use Rattle.lent.proofs.Scan.{both}
 use Rattle.lent.proofs.Stored.{window-cons}
-use Rattle.decimal.specs.Decimal.{head}
 use Rattle.decimal.specs.Hex.{glyph, nibble, hex, unhex}
 
 -- ---- lengths

@@ -1,6 +1,6 @@
 -- A byte of a default body that is not zero lies in a field, and so does what follows it there. Assumes nothing.
 use mathlib.Core.Path.{_≡_, refl, sym}
-use mathlib.Core.Bool.{Bool, true, false, cond, _&&_, _||_, false≢true}
+use mathlib.Core.Bool.{Bool, true, false, cond, _&&_, _||_}
 use mathlib.Core.List.{List, [], _∷_}
 use Prim.Native.Nat.{ℕ, suc, _+_, _-_, _/_, _≤_, _<_}
 use native.Mathlib.Omega.{arith}
@@ -14,7 +14,7 @@ use Rattle.lent.proofs.Scan.{both, passes, stops}
 use Rattle.field.specs.declared.FieldDef.{FieldDef}
 use Rattle.field.specs.Field.{fieldAt, counts}
 use Rattle.plan_rules.specs.Rule.{isMarked, wantAt}
-use Rattle.defaults.specs.Defaults.{holds, covered, gapsZero, markHolds, coverEnd}
+use Rattle.defaults.specs.Defaults.{holds, covered, markHolds, coverEnd}
 
 or-true : (b : Bool) → (b || true) ≡ true
 or-true true = refl

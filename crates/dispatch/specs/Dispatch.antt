@@ -9,7 +9,6 @@ use Rattle.limits.specs.Limits.{maxBytes, maxHeader}
 use Rattle.limits.specs.declared.refusal.Refusal.the-variants.{BadHeader, BadLength, Unplanned, NoRoom, BadPlan}
 use Rattle.lent.specs.Bytes.{numberAt, window}
 use Rattle.lent.specs.Scan.{first, some, places}
-use Rattle.slot.specs.Plan.{Plan}
 use Rattle.slot.specs.Slot.{slotSize, sizeIn, planIn, slotOk}
 use Rattle.interpreter.specs.Run.{upgraded}
 use Rattle.dispatch.specs.declared.choice.Choice.{Choice}

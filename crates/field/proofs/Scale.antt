@@ -1,5 +1,5 @@
 -- A scale and its byte: a byte of 128 or more, less 256, is its signed reading; and back. Assumes nothing.
-use mathlib.Core.Path.{_≡_, refl, sym, ap, _∙_}
+use mathlib.Core.Path.{_≡_, refl, sym, _∙_}
 use mathlib.Core.Bool.{true, false, false≢true}
 use Prim.Native.Nat.{ℕ, suc, _-_, _≤_, _<_}
 use native.Mathlib.Nat.{not-suc-le-zero}

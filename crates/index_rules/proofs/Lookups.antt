@@ -1,16 +1,15 @@
 -- Turns of the lookups, and what an answer of none means. Assumes nothing.
-use mathlib.Core.Path.{_≡_, refl, sym, ap, _∙_}
+use mathlib.Core.Path.{_≡_, refl, sym, _∙_}
 use mathlib.Core.Bool.{Bool, true, false, cond, not, _&&_}
 use mathlib.Core.List.{List, [], _∷_, _++_, map}
-use Prim.Native.Nat.{ℕ, _+_, _-_, _≤_, _<_}
-use native.Mathlib.Omega.{arith}
+use Prim.Native.Nat.{ℕ, _+_, _-_, _<_}
 use lib.Dec.{eqb}
 use Rattle.lent.specs.Scan.{gather, first, last, alike, places}
 use Rattle.lent.proofs.Scan.{turn, none}
-use Rattle.field.specs.Field.{fieldsOf, isPadding}
+use Rattle.field.specs.Field.{isPadding}
 use Rattle.field.specs.declared.FieldDef.{FieldDef}
-use Rattle.layout.specs.Layout.{RecordLayout, recordAt}
-use Rattle.index_rules.specs.Index.{fieldsIfOf, fieldsOfRtype, hasId, Named, named, hasName}
+use Rattle.layout.specs.Layout.{recordAt}
+use Rattle.index_rules.specs.Index.{fieldsIfOf, fieldsOfRtype, Named, named, hasName}
 use Rattle.index_rules.specs.declared.Lookup.{Lookup}
 use Rattle.index_rules.specs.declared.Lookup.the-variants.{Def, Missing}
 

@@ -1,15 +1,15 @@
 -- One step, by its case, and a turn over the steps of a slot. Assumes nothing.
-use mathlib.Core.Path.{_≡_, refl, sym, ap, _∙_}
-use mathlib.Core.Bool.{Bool, true, false, not, cond, _&&_, _||_}
+use mathlib.Core.Path.{_≡_, refl}
+use mathlib.Core.Bool.{Bool, true, not, _&&_, _||_}
 use mathlib.Core.List.{List, [], _∷_}
-use Prim.Native.Nat.{ℕ, zero, suc, _+_, _-_, _*_, _≤_, _<_}
+use Prim.Native.Nat.{ℕ, _+_, _-_, _≤_, _<_}
 use native.Mathlib.Omega.{arith}
 use lib.Dec.{leb, ltb, eqb}
 use lib.ListN.{length, drop, length-drop}
 use lib.Seq.{sets, length-take-le}
 use borrow.Author.Tests.{le-leb, lt-leb, leb-true}
 use Rattle.lent.specs.Bytes.{window}
-use Rattle.lent.specs.Scan.{gather, every}
+use Rattle.lent.specs.Scan.{every}
 use Rattle.lent.proofs.Bytes.{length-bytesOf}
 use Rattle.lent.proofs.Scan.{turn, none, both}
 use Rattle.limits.specs.Limits.{maxBytes}

@@ -1,6 +1,6 @@
 // Refusal 2: counts, names, parts and sizes of a block.
 ghost use mathlib.Core.Path.{_≡_};
-ghost use Prim.Native.Nat.{_+_, _*_, _/_, _<_, _≤_};
+ghost use Prim.Native.Nat.{_+_, _*_, _/_, _<_};
 ghost use Rattle.lent.specs.Scan.{places, every};
 ghost use Rattle.layout.specs.Layout.{heads};
 ghost use Rattle.layout.specs.Shape.{nameOk, partOk, tableShape, namesMatch, namesShape, recordShape, structShape, headShape, countsOk, shapeOk};

@@ -1,17 +1,17 @@
 -- A text compared part by part with what would be written. Assumes nothing.
 use mathlib.Core.Path.{_≡_, refl, sym, ap, _∙_}
-use mathlib.Core.Bool.{Bool, true, false, cond, _&&_}
+use mathlib.Core.Bool.{Bool, true, false, _&&_}
 use mathlib.Core.List.{List, [], _∷_, _++_, append-assoc}
 use Prim.Native.Nat.{ℕ, zero, suc, _+_, _-_, _*_, _≤_, _<_}
 use native.Mathlib.Omega.{arith}
-use lib.ListN.{length, getD, take, drop, replicate, length-replicate, drop-of-length-le}
+use lib.ListN.{length, take, drop, replicate, length-replicate, drop-of-length-le}
 use lib.Seq.{drop-drop, drop-cons}
 use lib.Dec.{eqb}
 use Rattle.lent.specs.Bytes.{byteAt, numberAt, window}
 use Rattle.lent.specs.Scan.{alike}
 use Rattle.lent.proofs.Scan.{unlike}
 use Rattle.step.specs.Packed.{stepAt, stepsAt}
-use Rattle.slot.specs.Slot.{slotSize, bodyFrom, stepsFrom, headerIn, sizeIn, countIn}
+use Rattle.slot.specs.Slot.{bodyFrom, headerIn, sizeIn}
 use Rattle.decimal.specs.Put.{Put}
 use Rattle.decimal.specs.Hex.{hex}
 use Rattle.decimal.proofs.Puts.{put-start}

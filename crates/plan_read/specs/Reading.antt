@@ -6,7 +6,6 @@ use mathlib.Core.List.{List}
 use lib.Dec.{leb, eqb}
 use lib.ListN.{length}
 use lib.Seq.{sets}
-use Rattle.limits.specs.declared.refusal.Refusal.{Refusal}
 use Rattle.limits.specs.declared.refusal.Refusal.the-variants.{BadPlan, NoRoom}
 use Rattle.lent.specs.Scan.{alike}
 use Rattle.slot.specs.Plan.{Plan, planOk}

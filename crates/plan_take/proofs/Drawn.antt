@@ -1,10 +1,10 @@
 -- The numbers and steps that are taken out of any text, one behind the other. Assumes nothing.
-use mathlib.Core.Path.{_≡_, refl, sym, ap, _∙_}
-use mathlib.Core.Bool.{Bool, true, false, cond}
-use mathlib.Core.List.{List, [], _∷_, _++_}
-use Prim.Native.Nat.{ℕ, zero, suc, _+_, _-_, _*_, _/_, _%_, _≤_, _<_}
+use mathlib.Core.Path.{_≡_, refl, sym, _∙_}
+use mathlib.Core.Bool.{true, false}
+use mathlib.Core.List.{List}
+use Prim.Native.Nat.{ℕ, zero, suc, _+_, _-_, _*_, _/_, _%_, _<_}
 use native.Mathlib.Omega.{arith}
-use lib.ListN.{length, take, drop, set}
+use lib.ListN.{length, drop, set}
 use lib.Seq.{sets}
 use lib.Dec.{eqb}
 use borrow.Author.Tests.{eq-eqb, ne-eqb}
@@ -15,7 +15,7 @@ use Rattle.step.specs.declared.Op.the-variants.{Copy, Int}
 use Rattle.step.specs.declared.Step.{Step}
 use Rattle.slot.specs.Slot.{packedSteps}
 use Rattle.slot.proofs.Packing.{packed-size}
-use Rattle.decimal.specs.Decimal.{head, number, past, pasts, nth}
+use Rattle.decimal.specs.Decimal.{head, pasts}
 use Rattle.decimal.specs.Taken.{Taken, Skipped}
 use Rattle.plan_take.specs.Lenient.{isCopy, copyAs, intAs, stepAs, stepPast, stepsAs, numbersAs}
 

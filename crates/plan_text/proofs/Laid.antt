@@ -1,23 +1,20 @@
 -- How long the lines are, and what they begin with. Assumes nothing.
-use mathlib.Core.Path.{_≡_, refl, sym, ap, _∙_}
-use mathlib.Core.Bool.{Bool, true, false, cond}
+use mathlib.Core.Path.{_≡_, refl, ap, _∙_}
+use mathlib.Core.Bool.{Bool}
 use mathlib.Core.List.{List, [], _∷_, _++_, append-assoc, append-nil}
-use Prim.Native.Nat.{ℕ, zero, suc, _+_, _-_, _*_, _≤_, _<_}
+use Prim.Native.Nat.{ℕ, suc, _+_, _-_, _*_, _≤_, _<_}
 use native.Mathlib.Omega.{arith}
 use lib.ListN.{length, length-append}
-use Rattle.lent.specs.Bytes.{numberAt, window}
+use Rattle.lent.specs.Bytes.{numberAt}
 use Rattle.lent.proofs.Scan.{turn, none}
 use Rattle.step.specs.Packed.{stepAt, stepsAt}
 use Rattle.decimal.specs.Decimal.{place, decimal, cell}
 use Rattle.decimal.specs.Hex.{hex}
-use Rattle.decimal.specs.Put.{Put}
-use Rattle.decimal.proofs.Puts.{put-then, put-as}
 use Rattle.decimal.proofs.Numbers.{cell-length, decimal-most}
 use Rattle.decimal.proofs.Nibbles.{hex-length}
 use Rattle.step.specs.declared.Op.{Op}
 use Rattle.step.specs.declared.Op.the-variants.{Copy, Int}
-use Rattle.step.specs.declared.Step.{Step}
-use Rattle.plan_text.specs.Text.{tab, newline, edition, signOf, markOf, headLine, bodyLine, stepLine, stepLines}
+use Rattle.plan_text.specs.Text.{tab, newline, headLine, bodyLine, stepLine, stepLines}
 use Rattle.plan_text.specs.Held.{tabbed, headIn}
 
 -- a cell's length is its number's and one

@@ -5,7 +5,6 @@ use mathlib.Core.List.{List}
 use lib.Dec.{leb}
 use lib.ListN.{length}
 use lib.Seq.{sets}
-use Rattle.limits.specs.declared.refusal.Refusal.{Refusal}
 use Rattle.limits.specs.declared.refusal.Refusal.the-variants.{BadPlan, NoRoom}
 use Rattle.slot.specs.Slot.{planIn, slotOk}
 use Rattle.plan_text.specs.Text.{textOf}

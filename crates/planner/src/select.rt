@@ -1,10 +1,8 @@
 // The selection of dbn's Upgrader::new.
 ghost use mathlib.Core.Path.{_≡_};
-ghost use mathlib.Core.Bool.{cond};
 ghost use Prim.Native.Nat.{_<_};
-ghost use lib.Dec.{eqb};
-ghost use Rattle.lent.specs.Scan.{first, alike};
-ghost use Rattle.layout.specs.Layout.{recordAt, heads, nameAt};
+ghost use Rattle.lent.specs.Scan.{first};
+ghost use Rattle.layout.specs.Layout.{recordAt, heads};
 ghost use Rattle.layout.specs.Find.{near};
 ghost use Rattle.field.specs.declared.Holder.the-variants.{Record};
 ghost use Rattle.layout.specs.declared.find.Place.the-variants.{At, Nowhere};

@@ -1,6 +1,6 @@
 // record_size of dbn's layout.rs.
 ghost use mathlib.Core.Path.{_≡_};
-ghost use Prim.Native.Nat.{_+_, _*_, _<_};
+ghost use Prim.Native.Nat.{_+_, _<_};
 ghost use Rattle.field.specs.Field.{fieldsOf};
 ghost use Rattle.layout.specs.Layout.{recordAt};
 ghost use Rattle.record_size.specs.Size.{lastEnd, recordSize};

@@ -14,8 +14,6 @@ use Rattle.lent.specs.Bytes.{byteAt}
 use Rattle.lent.proofs.Scan.{both}
 use Rattle.lent.proofs.Stored.{get-below, get-in, get-past}
 use Rattle.step.specs.Step.{sourceOf, takes, targetOf, gives, endOf, stepOk, within, stepsOk}
-use Rattle.step.specs.declared.Op.{Op}
-use Rattle.step.specs.declared.Op.the-variants.{Copy, Int}
 use Rattle.step.specs.declared.Step.{Step}
 use Rattle.interpreter.specs.Run.{carried, reaches, runStep, run}
 use Rattle.interpreter.proofs.Runs.{length-carried}

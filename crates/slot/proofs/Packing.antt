@@ -1,21 +1,20 @@
 -- The parts of a slot, stored one behind the other. Assumes nothing.
-use mathlib.Core.Path.{_≡_, refl, sym, ap, _∙_}
+use mathlib.Core.Path.{_≡_, refl, sym}
 use mathlib.Core.List.{List, [], _∷_, _++_, append-assoc}
-use Prim.Native.Nat.{ℕ, zero, suc, _+_, _-_, _*_, _≤_, _<_}
+use Prim.Native.Nat.{ℕ, suc, _+_, _-_, _*_, _≤_, _<_}
 use native.Mathlib.Nat.{mul-suc}
 use native.Mathlib.Omega.{arith}
 use lib.ListN.{length, getD, take, drop, replicate, length-append, length-replicate}
 use lib.Seq.{sets, drop-cons, getD-take, length-take-le}
 use Rattle.limits.specs.Limits.{maxBytes, maxSteps}
-use Rattle.lent.specs.Bytes.{bytesOf, window}
+use Rattle.lent.specs.Bytes.{window}
 use Rattle.lent.proofs.Stored.{whole, sets-then}
 use Rattle.step.specs.Step.{copy}
 use Rattle.step.specs.Packed.{packedOp, packedOf}
 use Rattle.step.specs.declared.Op.{Op}
 use Rattle.step.specs.declared.Op.the-variants.{Copy, Int}
 use Rattle.step.specs.declared.Step.{Step}
-use Rattle.slot.specs.Plan.{Plan}
-use Rattle.slot.specs.Slot.{stepsFrom, bodyFrom, filled, packedSteps, headAs, headOf, slotOf}
+use Rattle.slot.specs.Slot.{stepsFrom, bodyFrom, filled, packedSteps}
 
 -- what is read of an array of steps past its end
 abbrev noStep : Step

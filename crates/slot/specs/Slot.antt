@@ -3,7 +3,7 @@
 use Prim.Native.Nat.{ℕ, _+_, _-_, _*_}
 use mathlib.Core.Bool.{Bool, _&&_}
 use mathlib.Core.List.{List, [], _∷_, _++_}
-use lib.Dec.{leb, eqb}
+use lib.Dec.{eqb}
 use lib.ListN.{length, take, replicate}
 use Rattle.limits.specs.Limits.{maxBytes, maxSteps}
 use Rattle.lent.specs.Bytes.{numberAt, bytesOf, window}

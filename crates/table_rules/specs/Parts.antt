@@ -1,5 +1,5 @@
 -- What the parts of the code compute: one test a field, and two quick tests, that no two fields share a byte and that all is as it should be.
-use Prim.Native.Nat.{ℕ, _+_}
+use Prim.Native.Nat.{ℕ}
 use mathlib.Core.Bool.{Bool, true, _&&_}
 use mathlib.Core.List.{List, [], _∷_}
 use lib.Dec.{leb}

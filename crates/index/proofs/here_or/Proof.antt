@@ -1,7 +1,6 @@
 use borrow.Author.Needs.{needs}
 use borrow.Author.Tests.{eq-eqb, ne-eqb}
 use mathlib.Core.Path.{_∙_, sym}
-use Rattle.index_rules.specs.declared.Lookup.the-variants.{Def, Missing}
 use Rattle.index.proofs.here_or.Statement.{statement}
 use Rattle.index.proofs.here_or.Tie as tie
 

@@ -1,6 +1,5 @@
 -- What is left of the steps gives what all of them do.
 use Prim.Native.Nat.{_*_, _+_, _≤_}
-use borrow.Author.Needs.{needs}
 use denote.Ref.{now}
 use lib.ListN.{length}
 use mathlib.Core.Bool.{true}

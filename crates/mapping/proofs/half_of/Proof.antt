@@ -1,8 +1,7 @@
 -- `step::half_of` meets its contract. Assumes nothing.
 use borrow.Author.Needs.{needs}
 use mathlib.Core.Path.{refl}
-use Prim.Native.Nat.{ℕ, _≤_, _^_}
-use Rattle.mapping.specs.Mapping.{half}
+use Prim.Native.Nat.{ℕ}
 use Rattle.mapping.proofs.Halves.{shifted, half-pos, half-le}
 use Rattle.mapping.proofs.half_of.Statement.{statement}
 use Rattle.mapping.proofs.half_of.Tie as tie

@@ -6,7 +6,7 @@ use native.Mathlib.Omega.{arith}
 use Rattle.layout.specs.Find.{isOf, lastOf, near}
 use Rattle.lent.proofs.Scan.{last-known, last-turn}
 use Rattle.lent.specs.Scan.{last, places}
-use Rattle.layout.specs.declared.find.Place.the-variants.{At, Nowhere}
+use Rattle.layout.specs.declared.find.Place.the-variants.{At}
 use Rattle.layout.proofs.find.last_of.Statement.{statement}
 use Rattle.layout.proofs.find.last_of.Tie as tie
 
