@@ -1,4 +1,6 @@
 // Admission of a layout, or of two, under a catalogue: refusals 1 to 6, each over the whole input before the next.
+#![tactic(auto)]
+
 ghost use Rattle.std.specs.Prelude.{◌≡◌};
 ghost use Rattle.lent.specs.Scan.{every};
 ghost use Rattle.layout.specs.Layout.{heads};

@@ -1,4 +1,6 @@
 // Which layouts are admitted, and laws about it.
+#![tactic(auto)]
+
 use limits::refusal::Refusal;
 use table_rules::Rule;
 

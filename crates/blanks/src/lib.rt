@@ -1,4 +1,6 @@
 // The words of a line that people write: parted by blanks, up to a '#'.
+#![tactic(auto)]
+
 ghost use Rattle.std.specs.Prelude.{◌≤◌, length};
 
 const COMMENT: u8 = b'#';

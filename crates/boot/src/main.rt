@@ -1,4 +1,6 @@
 // Says of each record of a layout whether it stores the hash of its tables. Standard input: the catalogue's 262 bytes, then the layout.
+#![tactic(auto)]
+
 use libc::{STDIN_FILENO, STDOUT_FILENO};
 use limits::refusal::Refusal;
 use tuppenceowl::hashing::Booted;

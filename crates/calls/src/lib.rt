@@ -1,4 +1,6 @@
 // The calls of dbn's FieldCursor: what each takes, how it aligns, and the field that it places.
+#![tactic(auto)]
+
 ghost use Rattle.std.specs.Prelude.{◌≡◌, cond, ◌+◌, ◌*◌, ◌≤◌, ◌<◌};
 ghost use Rattle.limits.specs.Limits.{max_bytes};
 ghost use Rattle.catalogue.specs.Catalogue.{width_of};

@@ -1,4 +1,6 @@
 // The parts of a line of cases: words that tabs part, bytes in hex, numbers; the answer that is put together, and where lines come from.
+#![tactic(auto)]
+
 pub mod input;
 pub mod put;
 

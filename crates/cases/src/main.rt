@@ -1,4 +1,6 @@
 // Reads cases from standard input, one a line, and writes the answer to each as a line to standard output.
+#![tactic(auto)]
+
 mod answer;
 mod asks;
 mod cursor;

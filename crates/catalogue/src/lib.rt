@@ -1,4 +1,6 @@
 // The catalogue of type ids: 262 lent bytes (docs/FORMATS.md).
+#![tactic(auto)]
+
 ghost use Rattle.std.specs.Prelude.{◌≡◌, cond, ◌+◌, ◌*◌, ◌/◌, ◌<◌, ◌≤◌, min, length, eqb};
 ghost use Rattle.lent.specs.Bytes.{byte_at};
 ghost use Rattle.lent.specs.Scan.{gather, every, tally};

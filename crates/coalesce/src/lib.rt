@@ -1,4 +1,6 @@
 // coalesce of dbn's upgrade.rs: two neighbours become one copy where both end inside both bases.
+#![tactic(auto)]
+
 ghost use Rattle.std.specs.Prelude.{◌≡◌, cond, ◌+◌, ◌<◌};
 ghost use Rattle.step.specs.Step.{copy};
 ghost use Rattle.coalesce.specs.Joins.{in_bases, adjacent, joins, joined};

@@ -1,4 +1,6 @@
 // dbn's compare.rs: may a stream's record be read as the compiled one?
+#![tactic(auto)]
+
 pub mod answer;
 
 ghost use Rattle.std.specs.Prelude.{◌≡◌, ◌+◌, ◌<◌, ◌≤◌, eqb, length};

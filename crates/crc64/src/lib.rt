@@ -1,4 +1,6 @@
 // Crc64 of dbn's hash.rs: CRC-64-AVRO, the sum behind a layout's hash.
+#![tactic(auto)]
+
 pub mod bitwise;
 pub mod bytewise;
 pub mod digitwise;

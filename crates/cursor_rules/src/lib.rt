@@ -1,4 +1,6 @@
 // The field cursor of dbn's builders.rs: its state, how it begins, which flags it gives; what it is to place a field, and laws about that.
+#![tactic(auto)]
+
 ghost use Rattle.std.specs.Prelude.{◌≡◌};
 ghost use Rattle.cursor_rules.specs.Cursor.{field_limit, fresh, flags_after};
 

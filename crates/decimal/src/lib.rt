@@ -1,5 +1,7 @@
 // Numbers as decimal text, both ways. A writer stores from `at` on and answers the place behind; a reader takes what stands from
 // `at` on, whatever it is.
+#![tactic(auto)]
+
 pub mod hexes;
 
 ghost use Rattle.std.specs.Prelude.{◌≡◌, ◌+◌, ◌<◌, ◌≤◌, [], ◌∷◌, length, drop};

@@ -1,4 +1,6 @@
 // The target's header and its default body, before anything is planned: refusals 7 and 8.
+#![tactic(auto)]
+
 ghost use Rattle.std.specs.Prelude.{◌≡◌, cond, ◌+◌, ◌-◌, ◌*◌, ◌≤◌, ◌<◌, length};
 ghost use Rattle.limits.specs.Limits.{max_bytes, max_fields};
 ghost use Rattle.lent.specs.Scan.{every};

@@ -1,4 +1,6 @@
 // UpgradePlan::apply and Upgrader::upgrade of dbn's upgrade.rs, without the headers: every refusal tested, plans lent as slots.
+#![tactic(auto)]
+
 pub mod choice;
 
 ghost use Rattle.std.specs.Prelude.{◌≡◌, ◌-◌, ◌≤◌, length};

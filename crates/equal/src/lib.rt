@@ -1,4 +1,6 @@
 // FieldDef's equality of dbn's compare.rs: the same numbers, and structs with the same fields.
+#![tactic(auto)]
+
 ghost use Rattle.std.specs.Prelude.{◌≡◌, ◌+◌, ◌*◌, ◌<◌, ◌≤◌, length};
 ghost use Rattle.limits.specs.Limits.{max_struct_fields};
 ghost use Rattle.field.specs.Field.{field_at};

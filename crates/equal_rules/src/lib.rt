@@ -1,1 +1,3 @@
 // What makes two tables equal, and laws about it: no code.
+#![tactic(auto)]
+

@@ -1,4 +1,6 @@
 // What a field feeds a sum, of dbn's hash.rs: its own bytes, without def_index.
+#![tactic(auto)]
+
 ghost use Rattle.std.specs.Prelude.{◌≡◌, length};
 ghost use Rattle.crc64.specs.Sum.{digit_table, bytes_step};
 ghost use Rattle.feed.specs.Feed.{field_bytes, row_step};

@@ -1,4 +1,6 @@
 // FieldDef of dbn's layout.rs: a field of a table, decoded from its 16 bytes.
+#![tactic(auto)]
+
 pub mod order;
 pub mod pair;
 

@@ -1,4 +1,6 @@
 // layout_hash of dbn's hash.rs, with levels and a budget of visits: fields in offset order at every level.
+#![tactic(auto)]
+
 ghost use Rattle.std.specs.Prelude.{◌≡◌, ◌*◌, ◌<◌, ◌≤◌, length};
 ghost use Rattle.limits.specs.Limits.{max_fields};
 ghost use Rattle.crc64.specs.Sum.{digit_table, bytes_step};

@@ -1,4 +1,6 @@
 // The walk that a record's hash takes: its rules, laws about them, and all of a field's visit that enters nothing.
+#![tactic(auto)]
+
 ghost use Rattle.std.specs.Prelude.{◌≡◌};
 ghost use Rattle.lent.specs.Bytes.{bytes_of};
 ghost use Rattle.crc64.specs.Sum.{digit_table, bytes_step};

@@ -1,4 +1,6 @@
 // The lookups of dbn's index.rs: scans, no table is built.
+#![tactic(auto)]
+
 ghost use Rattle.std.specs.Prelude.{◌≡◌, ◌+◌, ◌<◌, eqb, cond};
 ghost use Rattle.lent.specs.Scan.{last, alike};
 ghost use Rattle.field.specs.Field.{fields_of};

@@ -1,4 +1,6 @@
 // What the lookups find, and laws about it.
+#![tactic(auto)]
+
 use field::FieldDef;
 
 #[derive(Drop)]

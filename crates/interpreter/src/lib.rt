@@ -1,4 +1,6 @@
 // UpgradePlan::apply of dbn's upgrade.rs, on a plan in a slot: the default body, then the steps.
+#![tactic(auto)]
+
 ghost use Rattle.std.specs.Prelude.{◌≡◌, true, ◌+◌, ◌≤◌, length};
 ghost use Rattle.std.proofs.lemmas.List.Edits.{sets};
 ghost use Rattle.catalogue.specs.Catalogue.{is_width};

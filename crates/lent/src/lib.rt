@@ -1,5 +1,7 @@
 // Reads of lent bytes that need no promise of the caller: past the end there is a zero, and a part that does not lie
 // inside is empty.
+#![tactic(auto)]
+
 pub mod store;
 pub mod words;
 

@@ -1,4 +1,6 @@
 // What is refused, and where the limits lie: once for all of the code. specs/ has the same once for all promises.
+#![tactic(auto)]
+
 pub mod refusal;
 
 // Bytes of a record or a struct.

@@ -1,4 +1,6 @@
 // The integer mapping of dbn's UpgradePlan::apply, by the number of bytes, in 64 bits.
+#![tactic(auto)]
+
 pub mod width;
 
 ghost use Rattle.std.specs.Prelude.{◌≡◌, ◌^◌, ◌<◌, ◌≤◌};

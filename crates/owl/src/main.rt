@@ -1,4 +1,6 @@
 // owl: plans, hashes and upgrades for a build office at a terminal (docs/OWL.md). Results go to standard output, messages to standard error.
+#![tactic(auto)]
+
 mod demo;
 mod faults;
 mod help;

@@ -1,5 +1,7 @@
 // Why a text is no plan: the first line that differs from a plan's form, or breaks a rule (docs/FORMATS.md). That it is none was the library's
 // answer; this looks for a line to show.
+#![tactic(auto)]
+
 pub mod flaw;
 pub mod lines;
 

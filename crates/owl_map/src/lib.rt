@@ -1,5 +1,7 @@
 // A plan drawn for a terminal of 80 columns: a row for each run of target bytes, and a strip with a letter for each byte. The slot holds a
 // plan that keeps every rule, so its steps stand in target order and apart.
+#![tactic(auto)]
+
 pub mod numbers;
 pub mod strip;
 

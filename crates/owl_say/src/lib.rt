@@ -1,4 +1,6 @@
 // What is written: results to standard output, messages to standard error.
+#![tactic(auto)]
+
 pub mod files;
 pub mod form;
 pub mod refusals;

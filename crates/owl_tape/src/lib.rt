@@ -1,4 +1,6 @@
 // A tape: records in hex, one a line of standard input, upgraded by the plan of a file. Each record has one line of the output.
+#![tactic(auto)]
+
 use caseline::input::Room;
 use caseline::{Parsed, input, put};
 use dispatch::Upgraded;

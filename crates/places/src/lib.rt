@@ -1,4 +1,6 @@
 // Where a source's first field of an id stands: an index by the low byte of the id, which tells most ids of a table apart.
+#![tactic(auto)]
+
 ghost use Rattle.std.specs.Prelude.{◌≡◌, ◌*◌, ◌%◌, ◌<◌, ◌≤◌, length, get_or};
 ghost use Rattle.limits.specs.Limits.{max_fields};
 ghost use Rattle.field.specs.Field.{fields_of};

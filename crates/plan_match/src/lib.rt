@@ -1,4 +1,6 @@
 // Is a text the one that would be written for the plan in a slot? The same lines, each compared as soon as it is made.
+#![tactic(auto)]
+
 ghost use Rattle.std.specs.Prelude.{◌≡◌, ◌+◌, ◌*◌, ◌≤◌, length, take, drop, eqb};
 ghost use Rattle.limits.specs.Limits.{max_bytes};
 ghost use Rattle.lent.specs.Bytes.{window};

@@ -1,4 +1,6 @@
 // The parts of a plan, taken out of any text into a slot.
+#![tactic(auto)]
+
 ghost use Rattle.std.specs.Prelude.{◌≡◌, ◌+◌, ◌*◌, ◌≤◌, length, drop};
 ghost use Rattle.std.proofs.lemmas.List.Edits.{sets};
 ghost use Rattle.decimal.specs.Decimal.{pasts};

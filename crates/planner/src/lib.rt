@@ -1,4 +1,6 @@
 // UpgradePlan::new of dbn's upgrade.rs, with every refusal tested.
+#![tactic(auto)]
+
 pub mod select;
 
 ghost use Rattle.std.specs.Prelude.{◌≡◌, ◌*◌, ◌<◌, ◌≤◌, length};

@@ -1,4 +1,6 @@
 // record_size of dbn's layout.rs.
+#![tactic(auto)]
+
 ghost use Rattle.std.specs.Prelude.{◌≡◌, ◌+◌, ◌<◌};
 ghost use Rattle.field.specs.Field.{fields_of};
 ghost use Rattle.layout.specs.Layout.{record_at};

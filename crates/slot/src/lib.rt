@@ -1,4 +1,6 @@
 // UpgradePlan of dbn's upgrade.rs, and the slot of lent bytes in which it is handed over.
+#![tactic(auto)]
+
 pub mod check;
 pub mod pack;
 

@@ -1,4 +1,6 @@
 // Op of dbn's upgrade.rs, kept inside a Step: a copy, or an integer mapped from one width to another.
+#![tactic(auto)]
+
 pub mod packed;
 
 ghost use Rattle.std.specs.Prelude.{◌≡◌, ◌+◌, ◌<◌};

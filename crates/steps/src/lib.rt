@@ -1,4 +1,6 @@
 // The steps of an upgrade plan: one for each target field that is carried, in target order, neighbours joined.
+#![tactic(auto)]
+
 ghost use Rattle.std.specs.Prelude.{◌≡◌, map, ℕ, ◌+◌, ◌*◌, ◌<◌, ◌≤◌, length, get_or, take};
 ghost use Rattle.limits.specs.Limits.{max_fields, max_steps};
 ghost use Rattle.field.specs.Field.{fields_of};

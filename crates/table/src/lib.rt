@@ -1,4 +1,6 @@
 // Refusals 3 to 6 of one table.
+#![tactic(auto)]
+
 ghost use Rattle.std.specs.Prelude.{◌≡◌, map, ◌+◌, ◌*◌, ◌<◌, ◌≤◌, length, take};
 ghost use Rattle.lent.specs.Scan.{gather, every};
 ghost use Rattle.field.specs.Field.{field_at, fields_of};

@@ -1,5 +1,7 @@
 // tape PLAN: the records of standard input upgraded by the plan of that file, as 'owl upgrade' does. It needs the reader and the dispatch alone, so that
 // less has to be proved for it.
+#![tactic(auto)]
+
 use libc::STDERR_FILENO;
 use owl_say::files;
 use owl_say::files::{Loaded, Text};

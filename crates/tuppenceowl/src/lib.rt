@@ -1,4 +1,6 @@
 // The public calls. Any bytes and numbers may be given to each; each answers as its definition in specs/ says.
+#![tactic(auto)]
+
 pub mod building;
 pub mod comparing;
 pub mod hashing;

@@ -1,5 +1,7 @@
 // The public calls for hosts in C and Rust, include/tuppenceowl.h. An answer is told by a status, and what it holds goes into lent numbers and
 // bytes; any other status leaves all of them as they were.
+#![tactic(auto)]
+
 pub mod admitting;
 pub mod building;
 pub mod comparing;

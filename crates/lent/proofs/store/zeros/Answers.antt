@@ -1,0 +1,21 @@
+use Prim.Native.Nat.{◌-◌}
+use Rattle.lent.proofs.Stored.{filled}
+use lib.ListN.{length-set}
+use mathlib.Core.Path.{◌∙◌, ◌≡◌, refl}
+use native.Mathlib.Nat.{add-zero, sub-zero}
+use native.Mathlib.Omega.{arith}
+use Rattle.lent.proofs.store.zeros.Goals as goal
+
+pub loop-i-init : goal.loop-i-init
+loop-i-init c = (omega arith, refl, simp (add-zero, sub-zero))
+
+pub loop-i-preserved : goal.loop-i-preserved
+loop-i-preserved c = (
+  omega arith,
+  simp length-set (omega arith),
+  filled c.loop-i.d c.args.at c.args.n c.loop-i.i 0 (omega arith) ∙ c.loop-i.invariant.2,
+)
+
+pub returns : goal.returns
+returns c = let z : c.args.n - c.loop-i.i ≡ 0 = omega arith in
+    rw (← c.loop-i.invariant.2, z)
