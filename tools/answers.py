@@ -58,7 +58,8 @@ class Places:
         for q in chain:
             if norm(self.step[q][0]) == norm(name):
                 return self.step[q][1]
-        return None
+        # A name that the toolchain's script took for one of the library's: the place says which step it is.
+        return self.step[at][1] if at and self.step[at][1] else None
 
 
 def inlined(body):
@@ -82,7 +83,8 @@ def turned(body, places, place, said):
             return "c." + m.group(2)
         return "c." + new
 
-    return PATH.sub(one, body)
+    # The test of `if !x` says now what x is.
+    return re.sub(r"not-(?:true|false) _ (c\.if-not[\w.-]*)", r"\1", PATH.sub(one, body))
 
 
 def loop_names(entry, k):

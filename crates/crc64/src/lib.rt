@@ -10,7 +10,7 @@ ghost use Rattle.crc64.specs.Sum.{empty, byte_step, u16_step, bytes_step};
 ghost use Rattle.crc64.specs.Avro.{fingerprint};
 
 // A running sum.
-#[derive(Drop)]
+#[derive(Clone, Copy)]
 pub struct Crc64 {
     pub fp: u64,
 }
