@@ -4,14 +4,14 @@
 use limits::refusal::Refusal;
 use table_rules::Rule;
 
-#[derive(Drop)]
+#[derive(Clone, Copy)]
 pub enum Admitted {
     Fine,
     Refused(Refusal),
 }
 
 // What is asked of each table: one rule, or all of them in one pass.
-#[derive(Drop)]
+#[derive(Clone, Copy)]
 pub enum Test {
     Each(Rule),
     Tidy,

@@ -8,14 +8,14 @@ ghost use Rattle.coalesce.specs.Joins.{in_bases, adjacent, joins, joined};
 use step::{Op, Step};
 
 // Two neighbours become one step, or stay two.
-#[derive(Drop)]
+#[derive(Clone, Copy)]
 pub enum Joining {
     One(Step),
     Two,
 }
 
 // Where the source's base ends, and the target's.
-#[derive(Drop)]
+#[derive(Clone, Copy)]
 pub struct Bases {
     pub source: usize,
     pub target: usize,

@@ -1,5 +1,5 @@
 // Verdict of dbn's layout.rs: read as compiled, or field by field.
-#[derive(Drop)]
+#[derive(Clone, Copy)]
 pub enum Verdict {
     Compiled,
     Dynamic,

@@ -7,4 +7,3 @@ pub mod Digits
 pub mod Turns
 pub mod Runs
 pub mod Vectors
-pub mod InPlace

@@ -7,7 +7,7 @@ ghost use Rattle.cursor_rules.specs.Cursor.{field_limit, fresh, flags_after};
 use field::{FieldDef, Holder};
 use limits::refusal::Refusal;
 
-#[derive(Drop)]
+#[derive(Clone, Copy)]
 pub struct FieldCursor {
     // The most fields that the table may have.
     pub most: usize,
@@ -18,14 +18,14 @@ pub struct FieldCursor {
     pub based: bool,
 }
 
-#[derive(Drop)]
+#[derive(Clone, Copy)]
 pub enum Placed {
     At(FieldCursor),
     Refused(Refusal),
 }
 
 // How often a struct stands in a nested field; an array of one is an array.
-#[derive(Drop)]
+#[derive(Clone, Copy)]
 pub enum Times {
     One,
     Array(u16),

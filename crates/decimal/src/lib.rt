@@ -107,7 +107,7 @@ fn push(v: u16, c: u8) -> u16
     65535
 }
 
-#[derive(Drop)]
+#[derive(Clone, Copy)]
 pub struct Number {
     pub value: u16,
     pub next: usize,

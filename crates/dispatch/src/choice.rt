@@ -3,7 +3,7 @@ ghost use Rattle.std.specs.Prelude.{◌≡◌};
 ghost use Rattle.dispatch.specs.Dispatch.{first_plan, listed};
 
 // Where the slot of the plan begins.
-#[derive(Drop)]
+#[derive(Clone, Copy)]
 pub enum Choice {
     Slot(usize),
     NoPlan,

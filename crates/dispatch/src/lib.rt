@@ -15,7 +15,7 @@ use choice::Choice;
 use limits::refusal::Refusal;
 use slot::check;
 
-#[derive(Drop)]
+#[derive(Clone, Copy)]
 pub enum Upgraded {
     // The target's rtype, and the upgraded record's size.
     Done(u16, usize),

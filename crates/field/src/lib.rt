@@ -11,7 +11,7 @@ ghost use Rattle.field.specs.Field.{signed_byte, byte_of, field_at, end_of, is_i
 // Bytes of a field in its table.
 pub const SIZE: usize = 16;
 
-#[derive(Drop)]
+#[derive(Clone, Copy)]
 pub struct FieldDef {
     pub field_id: u16,
     pub offset: u16,
@@ -25,7 +25,7 @@ pub struct FieldDef {
 }
 
 // What a table of fields belongs to.
-#[derive(Drop)]
+#[derive(Clone, Copy)]
 pub enum Holder {
     Record,
     Struct,

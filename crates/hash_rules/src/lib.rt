@@ -12,7 +12,7 @@ use field::FieldDef;
 use layout::block;
 use limits::refusal::Refusal;
 
-#[derive(Drop)]
+#[derive(Clone, Copy)]
 pub enum Hashed {
     // The sum and the visits used.
     Sum(u64, usize),
@@ -20,7 +20,7 @@ pub enum Hashed {
 }
 
 // What a field asks for: the walk goes on, or enters the struct whose head is named, or the budget is used up.
-#[derive(Drop)]
+#[derive(Clone, Copy)]
 pub enum Visit {
     On(u64, usize),
     Enter(u64, usize, usize),

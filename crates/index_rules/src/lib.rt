@@ -3,7 +3,7 @@
 
 use field::FieldDef;
 
-#[derive(Drop)]
+#[derive(Clone, Copy)]
 pub enum Lookup {
     Def(FieldDef),
     Missing,

@@ -6,7 +6,7 @@ use crate::block;
 use field::Holder;
 
 // Where a record's head stands.
-#[derive(Drop)]
+#[derive(Clone, Copy)]
 pub enum Place {
     At(usize),
     Nowhere,

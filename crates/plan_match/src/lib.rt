@@ -29,7 +29,7 @@ fn stands(line: &[u8], n: usize, text: &[u8], at: usize) -> bool
 }
 
 // Whether a line stands there, and how long it is.
-#[derive(Drop)]
+#[derive(Clone, Copy)]
 pub struct Stood {
     pub there: bool,
     pub wide: usize,

@@ -10,7 +10,7 @@ use limits::refusal::Refusal;
 use slot::check;
 
 // The plan stands in its slot, or why it does not.
-#[derive(Drop)]
+#[derive(Clone, Copy)]
 pub enum ReadPlan {
     Read,
     Refused(Refusal),

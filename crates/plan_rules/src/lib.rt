@@ -4,7 +4,7 @@
 use step::Step;
 
 // A target field is carried by a step, or has its default.
-#[derive(Drop)]
+#[derive(Clone, Copy)]
 pub enum Carried {
     By(Step),
     Default,

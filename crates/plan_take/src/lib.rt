@@ -29,7 +29,7 @@ fn take_numbers(text: &[u8], at: usize, n: usize, out: &mut [u8]) -> usize
     next
 }
 
-#[derive(Drop)]
+#[derive(Clone, Copy)]
 pub struct Taken {
     pub step: Step,
     pub next: usize,

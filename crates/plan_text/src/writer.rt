@@ -8,7 +8,7 @@ use crate::{lengths, lines};
 use limits::refusal::Refusal;
 
 // The text's length, or why there is none.
-#[derive(Drop)]
+#[derive(Clone, Copy)]
 pub enum Written {
     Length(usize),
     Refused(Refusal),

@@ -17,7 +17,7 @@ use layout::block;
 use limits::refusal::Refusal;
 use slot::{Numbers, UpgradePlan};
 
-#[derive(Drop)]
+#[derive(Clone, Copy)]
 pub enum Planned {
     Made,
     NoRecord,

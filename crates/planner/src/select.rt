@@ -13,7 +13,7 @@ use layout::find::Place;
 use layout::{block, find};
 use limits::refusal::Refusal;
 
-#[derive(Drop)]
+#[derive(Clone, Copy)]
 pub enum Selected {
     Record(usize),
     Unplanned,

@@ -14,7 +14,7 @@ pub const BODY_FROM: usize = STEPS_FROM + step::packed::SIZE * limits::MAX_STEPS
 pub const SIZE: usize = BODY_FROM + limits::MAX_BYTES;
 
 // What a plan says besides its steps and its body.
-#[derive(Drop)]
+#[derive(Clone, Copy)]
 pub struct Numbers {
     pub src_rtype: u16,
     pub rtype: u16,

@@ -7,7 +7,7 @@ ghost use Rattle.std.specs.Prelude.{◌≡◌, ◌+◌, ◌<◌};
 ghost use Rattle.catalogue.specs.Catalogue.{is_width};
 ghost use Rattle.step.specs.Step.{source_of, takes, target_of, end_of, widths_ok, step_ok, within};
 
-#[derive(Drop)]
+#[derive(Clone, Copy)]
 pub enum Op {
     Copy {
         src_offset: u16,
@@ -24,7 +24,7 @@ pub enum Op {
     },
 }
 
-#[derive(Drop)]
+#[derive(Clone, Copy)]
 pub struct Step {
     pub op: Op,
 }

@@ -3,7 +3,7 @@
 
 
 // What is tested of a table, in the order of the refusals.
-#[derive(Drop)]
+#[derive(Clone, Copy)]
 pub enum Rule {
     Reserved,
     Bounds,

@@ -11,7 +11,7 @@ use layout::find::Place;
 use layout::{block, find};
 use limits::refusal::Refusal;
 
-#[derive(Drop)]
+#[derive(Clone, Copy)]
 pub enum Judged {
     Is(Verdict),
     NoRecord,

@@ -10,7 +10,7 @@ use hash_rules::Hashed;
 use layout::block;
 use limits::refusal::Refusal;
 
-#[derive(Drop)]
+#[derive(Clone, Copy)]
 pub enum Summed {
     // The hash, and the visits used.
     Hash(u64, usize),
@@ -18,7 +18,7 @@ pub enum Summed {
     Refused(Refusal),
 }
 
-#[derive(Drop)]
+#[derive(Clone, Copy)]
 pub enum Booted {
     Same,
     Different,

@@ -17,20 +17,20 @@ use field::{FieldDef, Holder};
 use layout::block;
 use limits::refusal::Refusal;
 
-#[derive(Drop)]
+#[derive(Clone, Copy)]
 pub enum Sized {
     Bytes(usize),
     NoRecord,
     Refused(Refusal),
 }
 
-#[derive(Drop)]
+#[derive(Clone, Copy)]
 pub enum Windowed {
     Within(usize, usize),
     Past,
 }
 
-#[derive(Drop)]
+#[derive(Clone, Copy)]
 pub enum Found {
     Field(FieldDef),
     NoField,

@@ -1,5 +1,4 @@
 use Rattle.crc64.proofs.Turns.{two_bytes}
-use Rattle.std.proofs.Common.{rules}
 use lib.Bits.{mask_lt}
 use Rattle.crc64.proofs.bitwise.step_u16.Goals as goal
 

@@ -1,6 +1,6 @@
 use Rattle.crc64.proofs.Turns.{shift-goes, shifts-end}
-use Rattle.crc64.specs.Sum.{shifts, byte_step}
-use Rattle.std.proofs.Common.{◌≡◌, refl, arith, rules}
+use Rattle.crc64.specs.Sum.{byte_step}
+use Rattle.std.proofs.Common.{refl, arith}
 use Rattle.crc64.proofs.bitwise.step_u8.Goals as goal
 
 pub loop-left-init : goal.loop-left-init

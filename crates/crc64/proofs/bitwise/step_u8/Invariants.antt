@@ -1,7 +1,6 @@
 -- The shifts left, of the sum so far, give the byte's step.
-use Rattle.crc64.proofs.Turns.{shift-goes, shifts-end}
 use Rattle.crc64.specs.Sum.{shifts, byte_step}
-use Rattle.std.proofs.Common.{◌≡◌, refl, arith, rules}
+use Rattle.std.proofs.Common.{◌≡◌}
 use Rattle.crc64.proofs.bitwise.step_u8.Given as goal
 
 abbrev pub invariant-loop-left : goal.invariant-loop-left
