@@ -84,7 +84,7 @@ def turned(body, places, place, said):
         return "c." + new
 
     # The test of `if !x` says now what x is.
-    return re.sub(r"not-(?:true|false) _ (c\.if-not[\w.-]*)", r"\1", PATH.sub(one, body))
+    return re.sub(r"not-(?:true|false) _ (c\.if-not[\w.-]*)", r"\1", PATH.sub(one, body)).replace(".type-inv", ".type_inv")
 
 
 def loop_names(entry, k):

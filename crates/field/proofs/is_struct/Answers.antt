@@ -1,0 +1,4 @@
+use Rattle.field.proofs.is_struct.Goals as goal
+
+pub returns : goal.returns
+returns c = rw c.class_of.ensures
