@@ -83,8 +83,13 @@ def turned(body, places, place, said):
             return "c." + m.group(2)
         return "c." + new
 
+    # What said which arm of a `match` it is, is a field of the arm.
+    arms = [places.step[q][1] for q in places.chain(place) if places.step[q][1].startswith("in-")]
+    text = PATH.sub(one, body)
+    if arms:
+        text = re.sub(r"c\.[\w-]+\.given\.1(?![\w.])", f"c.{arms[0]}.is", text)
     # The test of `if !x` says now what x is.
-    return re.sub(r"not-(?:true|false) _ (c\.if-not[\w.-]*)", r"\1", PATH.sub(one, body)).replace(".type-inv", ".type_inv")
+    return re.sub(r"not-(?:true|false) _ (c\.if-not[\w.-]*)", r"\1", text).replace(".type-inv", ".type_inv")
 
 
 def loop_names(entry, k):

@@ -1,0 +1,10 @@
+-- Two numbers of four bytes are one of eight.
+use Prim.Native.Nat.{◌+◌}
+use Rattle.layout.specs.Layout.{record_at}
+use Rattle.lent.proofs.Bytes.{number-add}
+use native.Mathlib.Omega.{arith}
+use Rattle.layout.proofs.block.record_hash.Goals as goal
+
+pub returns : goal.returns
+unfolding record_at
+returns c = omega (arith, number-add c.args.l.now (c.args.h + 8) 4 4)

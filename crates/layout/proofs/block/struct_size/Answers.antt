@@ -1,0 +1,6 @@
+use Rattle.layout.specs.Layout.{struct_at}
+use Rattle.layout.proofs.block.struct_size.Goals as goal
+
+pub returns : goal.returns
+unfolding struct_at
+returns c = c.u32_at.ensures.0
