@@ -24,21 +24,21 @@ scale_of cat id = cond (eqb (class_of cat id) decimal) (negsuc 8) (pos 0)
 
 -- a field that has no place yet
 abbrev pub sketch : ℕ → ℕ → ℕ → ℕ → ℕ → ℤ → FieldDef
-sketch field◌id type◌id size flags def◌index scale =
+sketch field_id type_id size flags def_index scale =
     record {
-      field_id = field◌id;
+      field_id = field_id;
       offset = 0;
       size = size;
-      type_id = type◌id;
+      type_id = type_id;
       flags = flags;
-      def_index = def◌index;
+      def_index = def_index;
       scale = scale;
       reserved = 0;
     }
 
 abbrev pub scalar_of : List ℕ → ℕ → ℕ → ℕ → ℕ → ℕ → List ℕ → Building → Outcome
-scalar_of cat field◌id type◌id size flags def◌index name =
-    place cat (takes_scalar cat type◌id) (width_of cat type◌id) (sketch field◌id type◌id size flags def◌index (scale_of cat type◌id)) name
+scalar_of cat field_id type_id size flags def_index name =
+    place cat (takes_scalar cat type_id) (width_of cat type_id) (sketch field_id type_id size flags def_index (scale_of cat type_id)) name
 
 -- ---- string: aligned to nothing
 
@@ -46,8 +46,8 @@ abbrev pub takes_string : List ℕ → ℕ → Bool
 takes_string cat id = eqb (class_of cat id) string
 
 abbrev pub string_of : List ℕ → ℕ → ℕ → ℕ → ℕ → List ℕ → Building → Outcome
-string_of cat field◌id type◌id size flags name =
-    place cat (takes_string cat type◌id) 1 (sketch field◌id type◌id size flags 0 (pos 0)) name
+string_of cat field_id type_id size flags name =
+    place cat (takes_string cat type_id) 1 (sketch field_id type_id size flags 0 (pos 0)) name
 
 -- ---- like: the numbers of another field, all but its place and its def_index
 
@@ -55,9 +55,9 @@ abbrev pub takes_like : List ℕ → ℕ → Bool
 takes_like cat id = not (eqb (class_of cat id) struct)
 
 abbrev pub like_of : List ℕ → FieldDef → ℕ → List ℕ → Building → Outcome
-like_of cat f def◌index name =
+like_of cat f def_index name =
     place cat (takes_like cat f.type_id) (width_of cat f.type_id)
-    (sketch f.field_id f.type_id f.size f.flags def◌index f.scale) name
+    (sketch f.field_id f.type_id f.size f.flags def_index f.scale) name
 
 -- ---- nested: struct k of a layout, once or as an array
 
@@ -81,9 +81,9 @@ abbrev pub nested_size : List ℕ → ℕ → Times → ℕ
 nested_size l k times = min ((struct_at l (struct_head l k)).size * times_of times) (max_bytes + 1)
 
 abbrev pub nested_of : List ℕ → List ℕ → ℕ → ℕ → Times → List ℕ → Building → Outcome
-nested_of cat l field◌id k times name =
+nested_of cat l field_id k times name =
     place cat (ltb k (count_of Struct l)) (widest cat (fields_of (struct_at l (struct_head l k)).table))
-    (sketch field◌id (id_of cat struct) (nested_size l k times) (times_flag cat times) k (pos 0)) name
+    (sketch field_id (id_of cat struct) (nested_size l k times) (times_flag cat times) k (pos 0)) name
 
 -- ---- at, and the base
 
