@@ -22,6 +22,21 @@ fn read(reader: &mut impl Read, buf: &mut [u8]) -> io::Result<usize>
     reader.read(buf)
 }
 
+// Reads until the buffer is full or the input ends, and tells how many bytes stand at its start then.
+pub fn read_full(reader: &mut impl Read, buf: &mut [u8]) -> io::Result<usize>
+    ensures { IfOk result (λ n. n ≤ length buf.new) }
+{
+    let mut done = 0;
+    while done < buf.len() {
+        let got = read(reader, &mut buf[done..])?;
+        if got == 0 {
+            return Ok(done);
+        }
+        done += got;
+    }
+    Ok(done)
+}
+
 // Reads once behind the first `have` bytes, and tells how many there are then.
 pub fn more(reader: &mut impl Read, input: &mut [u8], have: usize) -> io::Result<usize> {
     if have < input.len() {
