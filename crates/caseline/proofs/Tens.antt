@@ -1,8 +1,6 @@
 -- A number of so many digits lies below the power of ten. Assumes nothing.
-use Prim.Native.Nat.{ℕ, ◌+◌, ◌*◌, ◌^◌, ◌≤◌, ◌<◌}
-use native.Mathlib.Nat.{pow-succ', pow-le-pow_right}
-use native.Mathlib.Numerals.{add-one}
-use native.Mathlib.Omega.{arith}
+use Rattle.std.proofs.Common.{ℕ, ◌+◌, ◌*◌, ◌^◌, ◌≤◌, ◌<◌, add-one, arith}
+use Rattle.std.proofs.Math.Nat.{pow-succ', pow-le-pow_right}
 
 pub small : (n k : ℕ) → n < 10 ^ k → k ≤ 8 → n < 100000000
 small n k h short = omega (arith, pow-le-pow_right {n = 10} (omega arith) {i = k} {j = 8} short)

@@ -1,7 +1,8 @@
 // The buffer that standard input is read into, piece by piece.
-ghost use Rattle.std.specs.Prelude.{◌≡◌, ◌≤◌, length};
+ghost use Rattle.std.specs.Prelude.{◌≡◌, ◌≤◌, length, IfOk};
 
-use libc::STDIN_FILENO;
+use std::io;
+use std::io::Read;
 
 // More than the longest line.
 pub const ROOM_SIZE: usize = 131072;
@@ -15,19 +16,34 @@ pub fn room() -> Room
     [0; ROOM_SIZE]
 }
 
-fn read(buf: &mut [u8]) -> usize
-    ensures { result ≤ length buf.old }
+fn read(reader: &mut impl Read, buf: &mut [u8]) -> io::Result<usize>
+    ensures { IfOk result (λ n. n ≤ length buf.old) }
 {
-    let got = libc::read(STDIN_FILENO, buf);
-    io::count(got, buf)
+    reader.read(buf)
+}
+
+// Reads until the buffer is full or the input ends, and tells how many bytes stand at its start then.
+pub fn read_full(reader: &mut impl Read, buf: &mut [u8]) -> io::Result<usize>
+    ensures { IfOk result (λ n. n ≤ length buf.new) }
+{
+    let mut done = 0;
+    while done < buf.len() {
+        let got = read(reader, &mut buf[done..])?;
+        if got == 0 {
+            return Ok(done);
+        }
+        done += got;
+    }
+    Ok(done)
 }
 
 // Reads once behind the first `have` bytes, and tells how many there are then.
-pub fn more(input: &mut [u8], have: usize) -> usize {
+pub fn more(reader: &mut impl Read, input: &mut [u8], have: usize) -> io::Result<usize> {
     if have < input.len() {
-        return have + read(&mut input[have..]);
+        let got = read(reader, &mut input[have..])?;
+        return Ok(have + got);
     }
-    have
+    Ok(have)
 }
 
 // Moves the bytes from `from` up to `to` to the front, and tells how many.

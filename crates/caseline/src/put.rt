@@ -1,5 +1,6 @@
 // An answer is put together in a buffer: each function takes where it ends, and tells where it ends then. What does not
 // fit is left out.
+ghost use Rattle.std.specs.Prelude.{◌≤◌};
 
 pub fn byte(out: &mut [u8], at: usize, b: u8) -> usize {
     if at < out.len() {
@@ -19,10 +20,27 @@ pub fn text(out: &mut [u8], at: usize, t: &[u8]) -> usize {
     end
 }
 
+// Puts the digits of a number at the end of these, and tells where they start.
+pub fn decimal(n: usize, digits: &mut [u8; 20]) -> usize
+    ensures { result ≤ 20 }
+{
+    let mut left = n;
+    let mut i: usize = 20;
+    while i > 0 {
+        i -= 1;
+        digits[i] = b'0' + (left % 10) as u8;
+        left = left / 10;
+        if left == 0 {
+            return i;
+        }
+    }
+    i
+}
+
 pub fn number(out: &mut [u8], at: usize, n: usize) -> usize {
     let mut digits = [0u8; 20];
-    let k = io::decimal(n as u64, &mut digits);
-    text(out, at, &digits[..k])
+    let from = decimal(n, &mut digits);
+    text(out, at, &digits[from..])
 }
 
 // A number after a blank.

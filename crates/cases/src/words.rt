@@ -124,7 +124,7 @@ fn listed(line: &[u8], list: &[u8]) -> usize {
 
 fn fits(line: &[u8], entry: &[u8]) -> bool {
     let blank = caseline::find(entry, 0, b' ');
-    if !check::same(caseline::word(line, 0), lent::part(entry, 0, blank)) {
+    if !lent::same(caseline::word(line, 0), lent::part(entry, 0, blank)) {
         return false;
     }
     if blank < entry.len() {
@@ -148,8 +148,8 @@ fn shaped(line: &[u8], kinds: &[u8]) -> bool {
 fn is_kind(text: &[u8], kind: u8) -> bool {
     match kind {
         b'*' => true,
-        b'd' => check::same(text, b"-") | at_most(text, 65535),
-        b'k' => check::same(text, b"record") | check::same(text, b"struct"),
+        b'd' => lent::same(text, b"-") | at_most(text, 65535),
+        b'k' => lent::same(text, b"record") | lent::same(text, b"struct"),
         b'A'..=b'Z' => caseline::is_hex(text) & (text.len() / 2 <= most(kind)),
         _ => at_most(text, most(kind)),
     }

@@ -1,8 +1,9 @@
 // Faults of a text of layouts: what was wrong, where, and what was expected.
 use crate::layouts::fault;
 use crate::layouts::state::State;
-use libc::STDERR_FILENO;
 use owl_say::{files, form, refusals};
+use std::io;
+use std::rt::Env;
 
 const NEWLINE: u8 = b'\n';
 
@@ -10,7 +11,7 @@ const NEWLINE: u8 = b'\n';
 const QUOTED: usize = 40;
 
 // How an item is written.
-fn say_form(line: &[u8]) {
+fn say_form(stderr: &impl Print, line: &[u8]) -> io::Result<()> {
     let item = blanks::which(
         b"field struct plan base source target",
         blanks::word(line, 0),
@@ -24,13 +25,13 @@ fn say_form(line: &[u8]) {
         \ttarget NAME RTYPE SCHEMA\n",
         item,
     );
-    owl_say::complain(written);
+    owl_say::complain(stderr, written)
 }
 
 // The messages stand in the order of layouts::fault, parted by tabs.
-fn say_why(line: &[u8], why: usize) {
+fn say_why(stderr: &impl Print, line: &[u8], why: usize) -> io::Result<()> {
     if why < fault::NO_ITEM {
-        return refusals::numbered(STDERR_FILENO, why);
+        return refusals::numbered(stderr, why);
     }
     let message = caseline::word(
         b"no item; expected source target struct field at base header wanted plan catalogue\n\
@@ -55,41 +56,42 @@ fn say_why(line: &[u8], why: usize) {
         \texpected before the first 'source', 'target' or 'struct'\n",
         why - fault::NO_ITEM,
     );
-    owl_say::complain(message);
+    owl_say::complain(stderr, message)?;
     if (why == fault::TOO_FEW) | (why == fault::TOO_MANY) {
-        say_form(line);
+        say_form(stderr, line)?;
     }
+    Ok(())
 }
 
 // The file and the line.
-pub fn place(line: usize) {
-    files::complain_arg(2);
-    form::say(STDERR_FILENO, b":#: ", form::one(line));
+pub fn place(rt: &impl Env, stderr: &impl Print, line: usize) -> io::Result<()> {
+    files::complain_arg(rt, stderr, 2)?;
+    form::say(stderr, b":#: ", form::one(line))
 }
 
 // Of the whole file.
-pub fn of_file(text: &[u8]) {
-    files::complain_arg(2);
-    owl_say::complain(text);
+pub fn of_file(rt: &impl Env, stderr: &impl Print, text: &[u8]) -> io::Result<()> {
+    files::complain_arg(rt, stderr, 2)?;
+    owl_say::complain(stderr, text)
 }
 
-fn quote(line: &[u8], k: usize) {
+fn quote(stderr: &impl Print, line: &[u8], k: usize) -> io::Result<()> {
     let word = blanks::word(line, k);
     if word.len() == 0 {
-        return owl_say::complain(b"at the end: ");
+        return owl_say::complain(stderr, b"at the end: ");
     }
-    owl_say::complain(b"'");
-    owl_say::complain(lent::window(word, 0, QUOTED));
+    owl_say::complain(stderr, b"'")?;
+    owl_say::complain(stderr, lent::window(word, 0, QUOTED))?;
     // Two dots, if the word is longer.
     let from = if QUOTED < word.len() { 0 } else { 2 };
-    owl_say::complain(lent::window(b"..': ", from, 5));
+    owl_say::complain(stderr, lent::window(b"..': ", from, 5))
 }
 
-pub fn say(text: &[u8], s: State) {
-    place(s.line);
+pub fn say(rt: &impl Env, stderr: &impl Print, text: &[u8], s: State) -> io::Result<()> {
+    place(rt, stderr, s.line)?;
     let from = lent::lesser(s.from, text.len());
     let end = caseline::find(text, from, NEWLINE);
     let line = blanks::content(&text[from..end]);
-    quote(line, s.word);
-    say_why(line, s.why);
+    quote(stderr, line, s.word)?;
+    say_why(stderr, line, s.why)
 }

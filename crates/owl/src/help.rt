@@ -1,7 +1,9 @@
 // What each command takes.
+use std::io;
 
-pub fn show() {
+pub fn show(stdout: &impl Print) -> io::Result<()> {
     owl_say::out(
+        stdout,
         b"owl: layouts of records and their upgrades\n\n\x20 \
         owl plan LAYOUTS           the plan that upgrades the source record to the target\n\x20 \
         owl hash LAYOUTS           each record's layout hash, and the fields that it visits\n\x20 \
@@ -12,5 +14,5 @@ pub fn show() {
         owl                        a small upgrade, shown whole\n\n\
         LAYOUTS is a text of a source and a target layout, PLAN what 'owl plan' prints.\n\
         docs/OWL.md has both; examples/ has samples.\n",
-    );
+    )
 }

@@ -3,12 +3,13 @@ use crate::layouts::state::State;
 use crate::layouts::{fault, state};
 use crate::{faults, layouts};
 use field::Holder;
-use libc::{STDERR_FILENO, STDOUT_FILENO};
 use limits::refusal::Refusal;
 use owl_blocks::room::Room;
 use owl_blocks::{pack, room};
 use owl_say::{files, form, refusals};
 use plan_text::writer::Written;
+use std::io;
+use std::rt::Env;
 use tuppenceowl::hashing::Summed;
 use tuppenceowl::planning::{Planned, Selected};
 use tuppenceowl::{Sized, hashing, planning, texting};
@@ -25,7 +26,14 @@ fn layout(room: &Room, side: u8, end: usize) -> &[u8] {
 // ---- which records
 
 // A refusal, at the line of the item that it concerns: the header's, or else the target's; where there is none, behind the text.
-fn refused(room: &Room, s: State, to: u8, r: Refusal) {
+fn refused(
+    rt: &impl Env,
+    stderr: &impl Print,
+    room: &Room,
+    s: State,
+    to: u8,
+    r: Refusal,
+) -> io::Result<()> {
     let mut line = pack::line_of(room, to);
     if s.targets == 0 {
         line = lent::lesser(s.line, files::ROOM) + 1;
@@ -38,8 +46,8 @@ fn refused(room: &Room, s: State, to: u8, r: Refusal) {
         }
         _ => {}
     }
-    faults::place(line);
-    refusals::refused(STDERR_FILENO, r);
+    faults::place(rt, stderr, line)?;
+    refusals::refused(stderr, r)
 }
 
 // The target record that the text names, or the one that is selected.
@@ -74,7 +82,14 @@ fn body(room: &Room, s: State, to: u8) -> &[u8] {
     lent::part(room, from + header, n)
 }
 
-fn plan_to(room: &Room, s: State, to: u8, slot: &mut Slot) -> bool {
+fn plan_to(
+    rt: &impl Env,
+    stderr: &impl Print,
+    room: &Room,
+    s: State,
+    to: u8,
+    slot: &mut Slot,
+) -> io::Result<bool> {
     let cat = room::catalogue(room);
     let l = layout(room, state::SOURCE, s.source_end);
     let into = layout(room, state::TARGET, s.target_end);
@@ -84,99 +99,121 @@ fn plan_to(room: &Room, s: State, to: u8, slot: &mut Slot) -> bool {
     let marks_at = room::MARKS_AT + limits::MAX_FIELDS * number;
     let marks = lent::part(room, marks_at, limits::MAX_FIELDS);
     match planning::plan(cat, l, k, into, number, s.header, body, marks, slot) {
-        Planned::Made => return true,
+        Planned::Made => return Ok(true),
         Planned::NoRecord => faults::of_file(
+            rt,
+            stderr,
             b": a record is missing; expected a source and a target\n",
-        ),
-        Planned::Refused(r) => refused(room, s, to, r),
+        )?,
+        Planned::Refused(r) => refused(rt, stderr, room, s, to, r)?,
     }
-    false
+    Ok(false)
 }
 
 // Whether a plan stands in the slot; if not, it was said why.
-fn plan(room: &Room, s: State, slot: &mut Slot) -> bool {
+fn plan(
+    rt: &impl Env,
+    stderr: &impl Print,
+    room: &Room,
+    s: State,
+    slot: &mut Slot,
+) -> io::Result<bool> {
     match chosen(room, s) {
-        Selected::Record(to) => return plan_to(room, s, (to % 256) as u8, slot),
+        Selected::Record(to) => return plan_to(rt, stderr, room, s, (to % 256) as u8, slot),
         Selected::Unplanned => {
             let source = layout(room, state::SOURCE, s.source_end);
-            faults::of_file(b": no target record is selected for the source's '");
-            owl_say::complain(pack::name_of(Holder::Record, source, s.source));
-            owl_say::complain(b"';\n  expected one of its rtype, or a line 'plan SOURCE TARGET'\n");
+            faults::of_file(
+                rt,
+                stderr,
+                b": no target record is selected for the source's '",
+            )?;
+            owl_say::complain(stderr, pack::name_of(Holder::Record, source, s.source))?;
+            owl_say::complain(
+                stderr,
+                b"';\n  expected one of its rtype, or a line 'plan SOURCE TARGET'\n",
+            )?;
         }
         Selected::NoRecord => faults::of_file(
+            rt,
+            stderr,
             b": no source record; expected a line 'source NAME RTYPE SCHEMA'\n",
-        ),
-        Selected::Refused(r) => refused(room, s, 0, r),
+        )?,
+        Selected::Refused(r) => refused(rt, stderr, room, s, 0, r)?,
     }
-    false
+    Ok(false)
 }
 
-pub fn say_plan(slot: &Slot) {
+pub fn say_plan(stdout: &impl Print, stderr: &impl Print, slot: &Slot) -> io::Result<()> {
     let mut text = [0u8; 16384];
     match texting::write_plan(slot, &mut text) {
-        Written::Length(n) => owl_say::out(lent::part(&text, 0, n)),
-        Written::Refused(r) => refusals::refused(STDERR_FILENO, r),
+        Written::Length(n) => owl_say::out(stdout, lent::part(&text, 0, n)),
+        Written::Refused(r) => refusals::refused(stderr, r),
     }
 }
 
 // ---- the hashes
 
-fn say_record(side: &[u8], l: &[u8], k: u8) {
-    owl_say::out(side);
-    owl_say::out(pack::name_of(Holder::Record, l, k));
+fn say_record(stdout: &impl Print, side: &[u8], l: &[u8], k: u8) -> io::Result<()> {
+    owl_say::out(stdout, side)?;
+    owl_say::out(stdout, pack::name_of(Holder::Record, l, k))?;
     let rtype = lent::wide16(pack::rtype_of(l, k));
-    form::say(STDOUT_FILENO, b" rtype # ", form::one(rtype));
+    form::say(stdout, b" rtype # ", form::one(rtype))
 }
 
 // Whether there is a record k.
-fn hashed(side: &[u8], cat: &[u8], l: &[u8], k: u8) -> bool {
+fn hashed(stdout: &impl Print, side: &[u8], cat: &[u8], l: &[u8], k: u8) -> io::Result<bool> {
     match hashing::layout_hash(cat, l, lent::wide8(k)) {
         Summed::Hash(fp, visits) => {
-            say_record(side, l, k);
-            owl_say::out(b"hash ");
-            io::print_hex(STDOUT_FILENO, fp, 16);
-            form::say(STDOUT_FILENO, b" visits #\n", form::one(visits));
+            say_record(stdout, side, l, k)?;
+            print!(stdout; "hash {fp:016x}")?;
+            form::say(stdout, b" visits #\n", form::one(visits))?;
         }
-        Summed::NoRecord => return false,
+        Summed::NoRecord => return Ok(false),
         Summed::Refused(r) => {
-            say_record(side, l, k);
-            refusals::refused(STDOUT_FILENO, r);
+            say_record(stdout, side, l, k)?;
+            refusals::refused(stdout, r)?;
         }
     }
-    true
+    Ok(true)
 }
 
-fn hashes(side: &[u8], cat: &[u8], l: &[u8]) {
+fn hashes(stdout: &impl Print, side: &[u8], cat: &[u8], l: &[u8]) -> io::Result<()> {
     let mut k: u8 = 0;
     while k < RECORDS {
-        if !hashed(side, cat, l, k) {
-            return;
+        if !hashed(stdout, side, cat, l, k)? {
+            return Ok(());
         }
         k += 1;
     }
+    Ok(())
 }
 
 // ---- a text
 
 // Whether its plan stands in the slot; if not, it was said why.
-pub fn plan_of(text: &[u8], slot: &mut Slot) -> bool {
+pub fn plan_of(
+    rt: &impl Env,
+    stderr: &impl Print,
+    text: &[u8],
+    slot: &mut Slot,
+) -> io::Result<bool> {
     let mut room = [0u8; room::SIZE];
     let s = layouts::read(text, &mut room);
     if s.why != fault::FINE {
-        faults::say(text, s);
-        return false;
+        faults::say(rt, stderr, text, s)?;
+        return Ok(false);
     }
-    plan(&room, s, slot)
+    plan(rt, stderr, &room, s, slot)
 }
 
-pub fn say_hashes(text: &[u8]) {
+pub fn say_hashes(rt: &(impl Env + Print), stderr: &impl Print, text: &[u8]) -> io::Result<()> {
     let mut room = [0u8; room::SIZE];
     let s = layouts::read(text, &mut room);
     if s.why != fault::FINE {
-        return faults::say(text, s);
+        return faults::say(rt, stderr, text, s);
     }
     let source = layout(&room, state::SOURCE, s.source_end);
     let target = layout(&room, state::TARGET, s.target_end);
-    hashes(b"source ", room::catalogue(&room), source);
-    hashes(b"target ", room::catalogue(&room), target);
+    hashes(rt, b"source ", room::catalogue(&room), source)?;
+    hashes(rt, b"target ", room::catalogue(&room), target)
 }

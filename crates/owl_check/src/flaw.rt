@@ -1,6 +1,7 @@
 // What may be wrong with a line, and what was expected: the numbers of the messages below. A flaw of one field is its message's and FIELD for
 // each field up to it; 0 is none.
 use owl_say::form;
+use std::io;
 
 pub const FIELD: usize = 100;
 
@@ -47,7 +48,7 @@ pub const WIDTHS: usize = 19;
 pub const NARROWS: usize = 20;
 
 // The line, the field behind the first where one is meant, and what was expected. The messages are parted by tabs, the first behind one.
-pub fn say(fd: i32, line: usize, why: usize) {
+pub fn say(stream: &impl Print, line: usize, why: usize) -> io::Result<()> {
     let message = caseline::word(
         b"\texpected 'plan', the edition 1 and seven numbers, parted by tabs\n\
         \texpected 'body', a tab and hex\n\
@@ -72,13 +73,13 @@ pub fn say(fd: i32, line: usize, why: usize) {
         why % FIELD,
     );
     if why < FIELD {
-        form::say(fd, b":#: no plan (r16): ", form::one(line));
+        form::say(stream, b":#: no plan (r16): ", form::one(line))?;
     } else {
         form::say(
-            fd,
+            stream,
             b":#: field #: no plan (r16): ",
             form::two(line, why / FIELD),
-        );
+        )?;
     }
-    owl_say::to(fd, message);
+    owl_say::to(stream, message)
 }

@@ -5,6 +5,8 @@
 pub mod flaw;
 pub mod lines;
 
+use std::io;
+
 const NEWLINE: u8 = b'\n';
 
 fn more(n: usize) -> usize {
@@ -15,20 +17,20 @@ fn more(n: usize) -> usize {
 }
 
 // What is wrong once so many lines were looked at, of as many; the last one may be cut off before its end.
-fn say_end(fd: i32, number: usize, lines: usize, cut: bool) {
+fn say_end(stream: &impl Print, number: usize, lines: usize, cut: bool) -> io::Result<()> {
     if number < 2 {
-        flaw::say(fd, number + 1, flaw::MISSING);
+        flaw::say(stream, number + 1, flaw::MISSING)
     } else if number != lines {
-        flaw::say(fd, number, flaw::STEP_COUNT);
+        flaw::say(stream, number, flaw::STEP_COUNT)
     } else if cut {
-        flaw::say(fd, number, flaw::NO_NEWLINE);
+        flaw::say(stream, number, flaw::NO_NEWLINE)
     } else {
-        owl_say::to(fd, b": no plan (r16)\n");
+        owl_say::to(stream, b": no plan (r16)\n")
     }
 }
 
 // Says so behind the file's name.
-pub fn say(fd: i32, text: &[u8]) {
+pub fn say(stream: &impl Print, text: &[u8]) -> io::Result<()> {
     let mut seen = [0usize; 4];
     let mut number: usize = 0;
     let mut at = 0;
@@ -37,9 +39,9 @@ pub fn say(fd: i32, text: &[u8]) {
         number = more(number);
         let why = lines::look(&text[at..end], number, &mut seen);
         if why != 0 {
-            return flaw::say(fd, number, why);
+            return flaw::say(stream, number, why);
         }
         at = end + 1;
     }
-    say_end(fd, number, seen[lines::LINES], text.len() < at);
+    say_end(stream, number, seen[lines::LINES], text.len() < at)
 }

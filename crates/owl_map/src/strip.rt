@@ -1,7 +1,7 @@
 // The strip: a letter for each byte of the target record, 64 in a row.
 use caseline::put;
-use libc::STDOUT_FILENO;
 use owl_say::form;
+use std::io;
 
 pub type Cells = [u8; limits::MAX_BYTES];
 
@@ -22,19 +22,24 @@ pub fn fill(cells: &mut Cells, from: usize, to: usize, first: u8, rest: u8) {
 }
 
 // A group behind a blank; where a row begins, its place goes before.
-fn say_group(at: usize, letters: &[u8]) {
+fn say_group(stdout: &impl Print, at: usize, letters: &[u8]) -> io::Result<()> {
     if at % ROW == 0 {
-        form::say(STDOUT_FILENO, b"\n>", form::one(at));
+        form::say(stdout, b"\n>", form::one(at))?;
     }
-    owl_say::out(b" ");
-    owl_say::out(letters);
+    owl_say::out(stdout, b" ")?;
+    owl_say::out(stdout, letters)
 }
 
-pub fn say(cells: &Cells, size: usize) {
+pub fn say(stdout: &impl Print, cells: &Cells, size: usize) -> io::Result<()> {
     let end = lent::lesser(size, limits::MAX_BYTES);
     let mut at: usize = 0;
     while at < end {
-        say_group(at, lent::part(cells, at, lent::lesser(end - at, GROUP)));
+        say_group(
+            stdout,
+            at,
+            lent::part(cells, at, lent::lesser(end - at, GROUP)),
+        )?;
         at += GROUP;
     }
+    Ok(())
 }

@@ -1,9 +1,18 @@
 // The file that an argument names, read whole.
+ghost use Rattle.std.specs.Prelude.{◌≤◌, length};
+
+use caseline::input;
+use std::env::FillError;
+use std::rt::{Env, Files};
+use std::{fs, io, str};
 
 // More than the longest plan text, and room for some two thousand lines of layouts.
 pub const ROOM: usize = 65536;
 
 pub type Text = [u8; ROOM];
+
+// More than the longest path.
+pub const WORD: usize = 4096;
 
 #[derive(Drop)]
 pub enum Loaded {
@@ -11,69 +20,146 @@ pub enum Loaded {
     Failed,
 }
 
-pub fn say_arg(fd: i32, k: usize) {
-    let mut word = io::buffer();
-    let n = os::arg(k, &mut word);
-    crate::to(fd, &word[..n]);
+// ---- arguments
+
+// Whether there is an argument k, counted from the command's own name.
+pub fn has_arg(rt: &impl Env, k: usize) -> bool {
+    let mut byte = [0u8; 1];
+    match rt.arg(k, &mut byte) {
+        Err(FillError::NotPresent) => false,
+        _ => true,
+    }
 }
 
-pub fn complain_arg(k: usize) {
-    say_arg(libc::STDERR_FILENO, k);
+// Puts argument k at the start of word, or as much of it as fits, and tells how many bytes; none where there is no such argument.
+pub fn arg(rt: &impl Env, k: usize, word: &mut [u8]) -> usize
+    ensures { result ≤ length word.new }
+{
+    match rt.arg(k, word) {
+        Ok(n) => n,
+        Err(FillError::TooLong) => word.len(),
+        Err(FillError::NotPresent) => 0,
+    }
 }
 
-fn read(fd: i32, path: &[u8], text: &mut Text) -> Loaded {
-    let n = io::read_full(fd, text);
-    // A file that ends at once, or one that cannot be read, as a directory.
-    if n == 0 {
-        let mut byte = [0u8; 1];
-        if libc::read(fd, &mut byte) < 0 {
-            os::fail(path);
-        } else {
-            crate::complain(path);
-            crate::complain(b": an empty file\n");
+pub fn say_arg(rt: &impl Env, stream: &impl Print, k: usize) -> io::Result<()> {
+    let mut word = [0u8; WORD];
+    let n = arg(rt, k, &mut word);
+    crate::to(stream, &word[..n])
+}
+
+pub fn complain_arg(rt: &impl Env, stderr: &impl Print, k: usize) -> io::Result<()> {
+    say_arg(rt, stderr, k)
+}
+
+// ---- files
+
+// The system's words for an error, without its number.
+fn fail(
+    rt: &impl AllocGlobal,
+    stderr: &impl Print,
+    what: &[u8],
+    error: io::Error,
+) -> io::Result<()> {
+    let text = format!(in rt.alloc(); "{error}")?;
+    let end = caseline::find(text.as_bytes(), 0, b'(');
+    crate::complain(stderr, what)?;
+    crate::complain(stderr, b": ")?;
+    crate::complain(stderr, text.as_bytes()[..end].trim_ascii_end())?;
+    crate::complain(stderr, b"\n")
+}
+
+fn read(
+    rt: &(impl Files + AllocGlobal),
+    stderr: &impl Print,
+    path: &str,
+    text: &mut Text,
+) -> io::Result<Loaded> {
+    let name = path.as_bytes();
+    let mut file = match fs::open(rt, path) {
+        Ok(file) => file,
+        Err(e) => {
+            fail(rt, stderr, name, e)?;
+            return Ok(Loaded::Failed);
         }
-        return Loaded::Failed;
+    };
+    let n = match input::read_full(&mut file, text) {
+        Ok(n) => n,
+        // One that cannot be read, as a directory.
+        Err(e) => {
+            fail(rt, stderr, name, e)?;
+            return Ok(Loaded::Failed);
+        }
+    };
+    // A file that ends at once.
+    if n == 0 {
+        crate::complain(stderr, name)?;
+        crate::complain(stderr, b": an empty file\n")?;
+        return Ok(Loaded::Failed);
     }
     // A full room: there may be more.
     if n == ROOM {
-        crate::complain(path);
-        crate::complain(b": longer than 65535 bytes, the most that is read\n");
-        return Loaded::Failed;
+        crate::complain(stderr, name)?;
+        crate::complain(
+            stderr,
+            b": longer than 65535 bytes, the most that is read\n",
+        )?;
+        return Ok(Loaded::Failed);
     }
-    Loaded::Bytes(n)
+    Ok(Loaded::Bytes(n))
 }
 
 // The file that argument k names.
-pub fn load(k: usize, text: &mut Text) -> Loaded {
-    let mut path = io::buffer();
-    let length = os::arg(k, &mut path);
-    if os::errno() != 0 {
-        os::fail(b"owl: the file's name");
-        return Loaded::Failed;
+pub fn load(
+    rt: &(impl Env + Files + AllocGlobal),
+    stderr: &impl Print,
+    k: usize,
+    text: &mut Text,
+) -> io::Result<Loaded> {
+    let mut name = [0u8; WORD];
+    let length = match rt.arg(k, &mut name) {
+        Ok(n) => n,
+        Err(FillError::TooLong) => {
+            crate::complain(stderr, b"owl: the file's name: File name too long\n")?;
+            return Ok(Loaded::Failed);
+        }
+        Err(FillError::NotPresent) => {
+            crate::complain(stderr, b"owl: the file's name: Invalid argument\n")?;
+            return Ok(Loaded::Failed);
+        }
+    };
+    match str::from_utf8(&name[..length]) {
+        Ok(path) => read(rt, stderr, path, text),
+        Err(_) => {
+            crate::complain(stderr, &name[..length])?;
+            crate::complain(stderr, b": a file's name that is not UTF-8\n")?;
+            Ok(Loaded::Failed)
+        }
     }
-    let fd = os::open_read(&path[..length]);
-    if fd < 0 {
-        os::fail(&path[..length]);
-        return Loaded::Failed;
-    }
-    let loaded = read(fd, &path[..length], text);
-    libc::close(fd);
-    loaded
 }
 
 // The file behind the command, which has at most so many words, its own name among them.
-pub fn load_second(text: &mut Text, most: usize) -> Loaded {
-    if os::arg_count() < 3 {
+pub fn load_second(
+    rt: &(impl Env + Files + AllocGlobal),
+    stderr: &impl Print,
+    text: &mut Text,
+    most: usize,
+) -> io::Result<Loaded> {
+    if !has_arg(rt, 2) {
         crate::complain(
+            stderr,
             b"owl: a file is missing behind the command; 'owl help' says what each takes\n",
-        );
-        return Loaded::Failed;
+        )?;
+        return Ok(Loaded::Failed);
     }
-    if most < os::arg_count() {
-        crate::complain(b"owl: '");
-        complain_arg(most);
-        crate::complain(b"': a word too many; 'owl help' says what each command takes\n");
-        return Loaded::Failed;
+    if has_arg(rt, most) {
+        crate::complain(stderr, b"owl: '")?;
+        complain_arg(rt, stderr, most)?;
+        crate::complain(
+            stderr,
+            b"': a word too many; 'owl help' says what each command takes\n",
+        )?;
+        return Ok(Loaded::Failed);
     }
-    load(2, text)
+    load(rt, stderr, 2, text)
 }

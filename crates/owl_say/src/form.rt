@@ -1,5 +1,6 @@
 // A line with numbers in it, put together in a small room and written at once.
 use caseline::put;
+use std::io;
 
 // Columns of a number that stands under others.
 const WIDE: usize = 5;
@@ -27,14 +28,15 @@ pub fn four(a: usize, b: usize, c: usize, d: usize) -> Numbers {
 
 fn column(out: &mut [u8], at: usize, n: usize, left: bool) -> usize {
     let mut digits = [0u8; 20];
-    let k = io::decimal(n as u64, &mut digits);
-    let blanks = lent::part(b"     ", 0, WIDE - lent::lesser(k, WIDE));
+    let from = put::decimal(n, &mut digits);
+    let shown = &digits[from..];
+    let blanks = lent::part(b"     ", 0, WIDE - lent::lesser(shown.len(), WIDE));
     if left {
-        let end = put::text(out, at, &digits[..k]);
+        let end = put::text(out, at, shown);
         return put::text(out, end, blanks);
     }
     let end = put::text(out, at, blanks);
-    put::text(out, end, &digits[..k])
+    put::text(out, end, shown)
 }
 
 fn put_mark(out: &mut [u8], at: usize, mark: u8, n: usize) -> usize {
@@ -67,8 +69,8 @@ fn fill(out: &mut [u8], text: &[u8], numbers: Numbers) -> usize {
 }
 
 // In the text '#' stands for the next number, '>' and '<' for the next in five columns, at their right or left.
-pub fn say(fd: i32, text: &[u8], numbers: Numbers) {
+pub fn say(stream: &impl Print, text: &[u8], numbers: Numbers) -> io::Result<()> {
     let mut out = [0u8; 160];
     let end = fill(&mut out, text, numbers);
-    crate::to(fd, lent::part(&out, 0, end));
+    crate::to(stream, lent::part(&out, 0, end))
 }

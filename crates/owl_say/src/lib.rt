@@ -5,16 +5,16 @@ pub mod files;
 pub mod form;
 pub mod refusals;
 
-use libc::{STDERR_FILENO, STDOUT_FILENO};
+use std::io;
 
-pub fn to(fd: i32, text: &[u8]) {
-    io::write_all(fd, text);
+pub fn to(stream: &impl Print, text: &[u8]) -> io::Result<()> {
+    stream.write_all(text)
 }
 
-pub fn out(text: &[u8]) {
-    io::write_all(STDOUT_FILENO, text);
+pub fn out(stdout: &impl Print, text: &[u8]) -> io::Result<()> {
+    to(stdout, text)
 }
 
-pub fn complain(text: &[u8]) {
-    io::write_all(STDERR_FILENO, text);
+pub fn complain(stderr: &impl Print, text: &[u8]) -> io::Result<()> {
+    to(stderr, text)
 }

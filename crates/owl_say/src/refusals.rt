@@ -2,9 +2,10 @@
 use crate::form;
 use limits::refusal;
 use limits::refusal::Refusal;
+use std::io;
 
 // Of refusal k; they are parted by tabs, the first behind one.
-pub fn numbered(fd: i32, k: usize) {
+pub fn numbered(stream: &impl Print, k: usize) -> io::Result<()> {
     let words = caseline::word(
         b"\tnot a valid catalogue\
         \ta layout of a shape that is not allowed\
@@ -24,11 +25,11 @@ pub fn numbered(fd: i32, k: usize) {
         \tnot the text of a plan, or a plan that breaks a rule",
         k,
     );
-    form::say(fd, b"r# ", form::one(k));
-    crate::to(fd, words);
-    crate::to(fd, b"\n");
+    form::say(stream, b"r# ", form::one(k))?;
+    crate::to(stream, words)?;
+    crate::to(stream, b"\n")
 }
 
-pub fn refused(fd: i32, r: Refusal) {
-    numbered(fd, lent::wide8(refusal::number(r)));
+pub fn refused(stream: &impl Print, r: Refusal) -> io::Result<()> {
+    numbered(stream, lent::wide8(refusal::number(r)))
 }
