@@ -1,5 +1,5 @@
 -- A sound building is admitted and covers its bytes once, also after finish. Assumes nothing.
-use mathlib.Core.Path.{◌≡◌, refl, sym, ap, ◌∙◌}
+use mathlib.Core.Path.{◌≡◌, refl, sym, ap, ◌∙◌, subst}
 use mathlib.Core.Bool.{Bool, true, ◌&&◌}
 use mathlib.Core.List.{List, [], ◌∷◌, ◌++◌, map}
 use Prim.Native.Nat.{ℕ, zero, suc, ◌+◌, ◌*◌, ◌≤◌, ◌<◌}
@@ -114,7 +114,8 @@ module _ {A : Type 0} (read : List ℕ → ℕ → A) (size : ℕ) (same : (s t 
       let here : read (sets (sets d from W) (from + size) P) from ≡ read t (size * k) =
       same (sets (sets d from W) (from + size) P) t from (size * k)
       (λ j u. get-below P (sets d from W) (from + size) (from + j) (omega arith) ∙ get_in W d from j (omega (arith, w)) (omega (arith, w)) ∙ part-byte k j u) in
-      rw (a, here, picks ks (sets d from W) (from + size) z.1 (omega arith))
+      subst (λ (s : List ℕ). gather (read s) size from (suc (length ks)) ≡ map (λ i. read t (size * i)) (k ∷ ks)) (sym a)
+      (rw (here, picks ks (sets d from W) (from + size) z.1 (omega arith)))
 
   -- by their numbers, or by their places
   by-places : (m k : ℕ) → gather (λ i. read t (size * i)) 1 m k ≡ gather (read t) size (size * m) k
