@@ -1,4 +1,4 @@
-//! Links the static library of the C boundary, which `rt staticlib tuppenceowl_c` writes; OWL_LIB_DIR names another folder that has it.
+//! Links the static library of the C boundary, which `./build tuppenceowl_c` writes; OWL_LIB_DIR names another folder that has it.
 use std::{env, path::PathBuf, process::exit};
 
 const LIBRARY: &str = "libtuppenceowl_c.a";
@@ -10,7 +10,7 @@ fn main() {
     println!("cargo:rerun-if-changed={}", library.display());
     if !library.is_file() {
         eprintln!("{} is not there.", library.display());
-        eprintln!("Make it in the repository's root by: rt staticlib tuppenceowl_c");
+        eprintln!("Make it in the repository's root by: ./build tuppenceowl_c");
         eprintln!("or name the folder that has it in OWL_LIB_DIR.");
         exit(1);
     }
