@@ -89,7 +89,7 @@ def turned(body, places, place, said):
     if arms:
         text = re.sub(r"c\.[\w-]+\.given\.1(?![\w.])", f"c.{arms[0]}.is", text)
     # The test of `if !x` says now what x is.
-    return re.sub(r"not-(?:true|false) _ (c\.if-not[\w.-]*)", r"\1", text).replace(".type-inv", ".type_inv").replace(".type-id", ".type_id").replace(".field-id", ".field_id").replace(".def-index", ".def_index")
+    return re.sub(r"not-(?:true|false) (?:_|c[\w.-]*) (c\.if-not[\w.-]*)", r"\1", text).replace(".type-inv", ".type_inv").replace(".type-id", ".type_id").replace(".field-id", ".field_id").replace(".def-index", ".def_index")
 
 
 def loop_names(entry, k):

@@ -1,0 +1,10 @@
+use Rattle.defaults.specs.Defaults.{header_ok}
+use Rattle.defaults.proofs.header_ok.Goals as goal
+
+pub returns-then-header-size : goal.returns-then-header-size
+unfolding header_ok
+returns-then-header-size c = rw c.if-header-size.true c.all_start_after.ensures
+
+pub returns : goal.returns
+unfolding header_ok
+returns c = rw c.if-header-size.false
