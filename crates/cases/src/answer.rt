@@ -8,7 +8,7 @@ use limits::refusal::Refusal;
 // What an answer is put into.
 pub type Out = [u8; 16384];
 
-#[derive(Drop)]
+#[derive(Clone, Copy)]
 pub enum Answer {
     // One of the words below.
     Word(usize),

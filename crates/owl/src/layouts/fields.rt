@@ -15,7 +15,7 @@ const SHORTEST: usize = 4;
 const MOST: u16 = limits::MAX_BYTES as u16;
 
 // What the words of a line say.
-#[derive(Drop)]
+#[derive(Clone, Copy)]
 pub struct Field {
     pub id: u16,
     // The number of a type of the catalogue, or behind them that of a closed struct; behind these, none.

@@ -19,7 +19,7 @@ pub const STRUCT: u8 = 3;
 // dbn's header in versions 1 to 3.
 pub const HEADER: usize = 16;
 
-#[derive(Drop)]
+#[derive(Clone, Copy)]
 pub struct State {
     // The line, counted from 1, and where it begins in the text.
     pub line: usize,
