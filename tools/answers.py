@@ -15,7 +15,7 @@ import sys
 
 NAME = r"[A-Za-z0-9_'«»-]+"
 HEAD = re.compile(r"^((?:abbrev |unfoldable |pub )*)(" + NAME + r")\s*:\s*(.*)$", re.S)
-PATH = re.compile(r"(?<![\w'.-])c((?:\.before)*)\.(" + NAME + r")")
+PATH = re.compile(r"(?<![\w'.-])c((?:\.before)*)\.(" + NAME + r")(\.given\.1(?![\w.]))?")
 TRIVIAL = re.compile(r"^(?:omega arith|search rules|refl|search \(rules\))$")
 START = ("args", "requires", "ranges", "well_formed", "lifetimes", "type_inv", "utf8", "auto")
 
@@ -77,17 +77,18 @@ def turned(body, places, place, said):
 
     def one(m):
         ups = m.group(1).count(".before")
+        if m.group(3):
+            # What said which arm of a `match` it is, is a field of the arm.
+            arm = next((places.step[q][1] for q in list(places.chain(place))[ups:] if places.step[q][1].startswith("in-")), None)
+            if arm:
+                return f"c.{arm}.is"
         new = places.field(place, ups, m.group(2))
         if new is None:
             said.append(f"at {place}: no step {m.group()}")
             return "c." + m.group(2)
-        return "c." + new
+        return "c." + new + (m.group(3) or "")
 
-    # What said which arm of a `match` it is, is a field of the arm.
-    arms = [places.step[q][1] for q in places.chain(place) if places.step[q][1].startswith("in-")]
     text = PATH.sub(one, body)
-    if arms:
-        text = re.sub(r"c\.[\w-]+\.given\.1(?![\w.])", f"c.{arms[0]}.is", text)
     # The test of `if !x` says now what x is.
     return re.sub(r"not-(?:true|false) (?:_|c[\w.-]*) (c\.if-not[\w.-]*)", r"\1", text).replace(".type-inv", ".type_inv").replace(".type-id", ".type_id").replace(".field-id", ".field_id").replace(".def-index", ".def_index")
 
