@@ -22,7 +22,7 @@ pub struct Bases {
 }
 
 // A copy's numbers.
-#[derive(Drop)]
+#[derive(Clone, Copy)]
 struct Run {
     source: u16,
     target: u16,
