@@ -7,8 +7,8 @@ use Rattle.catalogue.proofs.count.Goals as goal
 
 pub returns : goal.returns
 returns c = omega (
-      arith,
-      c.count_half.ensures,
-      c.count_half-2.ensures,
-      tally-add (within c.args.low c.args.high) (byte_at c.args.cat.now) 0 128 128,
-    )
+  arith,
+  c.count_half.ensures,
+  c.count_half-2.ensures,
+  tally-add (within c.args.low c.args.high) (byte_at c.args.cat.now) 0 128 128,
+)

@@ -15,10 +15,10 @@ returns-then-not-starts_after c = let a = c.args in let l = c.loop-left in
 
 pub loop-left-preserved : goal.loop-left-preserved
 loop-left-preserved c = let a = c.args in let l = c.loop-left in (
-      omega arith,
-      goes (field_at a.table.now) 16 l.at l.left (starts_after a.cat.now a.header) _ l.invariant.1 (omega arith)
-          (rw (← c.field_in.ensures, ← c.starts_after.ensures) (c.if-not-starts_after.false)),
-    )
+  omega arith,
+  goes (field_at a.table.now) 16 l.at l.left (starts_after a.cat.now a.header) _ l.invariant.1 (omega arith)
+      (rw (← c.field_in.ensures, ← c.starts_after.ensures) (c.if-not-starts_after.false)),
+)
 
 pub returns : goal.returns
 returns c = let a = c.args in let l = c.loop-left in

@@ -12,17 +12,17 @@ loop-left-init c = (omega arith, refl)
 
 pub returns-then-counts-start : goal.returns-then-counts-start
 returns-then-counts-start c = let a = c.args in let l = c.loop-left in (
-      rw (c.wide16-start.ensures.0, c.wide16.ensures.0, c.field_in-f.ensures) (first-here (field_at a.table.now) 16 l.at l.left (λ f. counts a.cat.now f && holds f a.i) (λ f. f.offset + f.size) a.i _ l.invariant.1 (omega arith)
-          (rw (← c.field_in-f.ensures, ← c.counts.ensures, ← c.wide16-start.ensures.0, ← c.wide16.ensures.0) c.if-counts-start.true)),
-      omega arith,
-    )
+  rw (c.wide16-start.ensures.0, c.wide16.ensures.0, c.field_in-f.ensures) (first-here (field_at a.table.now) 16 l.at l.left (λ f. counts a.cat.now f && holds f a.i) (λ f. f.offset + f.size) a.i _ l.invariant.1 (omega arith)
+      (rw (← c.field_in-f.ensures, ← c.counts.ensures, ← c.wide16-start.ensures.0, ← c.wide16.ensures.0) c.if-counts-start.true)),
+  omega arith,
+)
 
 pub loop-left-preserved : goal.loop-left-preserved
 loop-left-preserved c = let a = c.args in let l = c.loop-left in (
-      omega arith,
-      first-later (field_at a.table.now) 16 l.at l.left (λ f. counts a.cat.now f && holds f a.i) (λ f. f.offset + f.size) a.i _ l.invariant.1 (omega arith)
-          (rw (← c.field_in-f.ensures, ← c.counts.ensures, ← c.wide16-start.ensures.0, ← c.wide16.ensures.0) c.if-counts-start.false),
-    )
+  omega arith,
+  first-later (field_at a.table.now) 16 l.at l.left (λ f. counts a.cat.now f && holds f a.i) (λ f. f.offset + f.size) a.i _ l.invariant.1 (omega arith)
+      (rw (← c.field_in-f.ensures, ← c.counts.ensures, ← c.wide16-start.ensures.0, ← c.wide16.ensures.0) c.if-counts-start.false),
+)
 
 pub returns : goal.returns
 returns c = let a = c.args in let l = c.loop-left in

@@ -19,10 +19,10 @@ returns-then-byte_at-most c = let a = c.args in let l = c.loop-left in
 
 pub loop-left-preserved : goal.loop-left-preserved
 loop-left-preserved c = let a = c.args in let l = c.loop-left in (
-      omega arith,
-      goes (λ (p : ℕ). p) 1 l.i l.left (λ k. eqb (byte_at a.body.now (a.from + k)) (largest_byte a.signed a.n k)) _ l.invariant.1 (omega arith)
-          (rw (← last-is l.i l.left a.n l.invariant.0, ← c.byte_at.ensures, ← c.largest_byte-most.ensures) (eq-eqb _ _ c.if-byte_at-most.false)),
-    )
+  omega arith,
+  goes (λ (p : ℕ). p) 1 l.i l.left (λ k. eqb (byte_at a.body.now (a.from + k)) (largest_byte a.signed a.n k)) _ l.invariant.1 (omega arith)
+      (rw (← last-is l.i l.left a.n l.invariant.0, ← c.byte_at.ensures, ← c.largest_byte-most.ensures) (eq-eqb _ _ c.if-byte_at-most.false)),
+)
 
 pub returns : goal.returns
 returns c = let a = c.args in let l = c.loop-left in

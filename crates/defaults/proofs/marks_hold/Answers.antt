@@ -15,10 +15,10 @@ returns-then-not-mark_holds c = let a = c.args in let l = c.loop-left in
 
 pub loop-left-preserved : goal.loop-left-preserved
 loop-left-preserved c = let a = c.args in let l = c.loop-left in (
-      omega arith,
-      goes (want_at a.cat.now a.marks.now a.table.now) 16 l.at l.left (mark_holds a.cat.now a.header a.body.now) _ l.invariant.1 (omega arith)
-          (rw (← c.mark_holds.ensures) (c.if-not-mark_holds.false)),
-    )
+  omega arith,
+  goes (want_at a.cat.now a.marks.now a.table.now) 16 l.at l.left (mark_holds a.cat.now a.header a.body.now) _ l.invariant.1 (omega arith)
+      (rw (← c.mark_holds.ensures) (c.if-not-mark_holds.false)),
+)
 
 pub returns : goal.returns
 returns c = let a = c.args in let l = c.loop-left in

@@ -10,14 +10,14 @@ returns-then-at-t c = c.field_in.ensures
 pub returns : goal.returns
 unfolding field_at
 returns c = rw (
-      to_z-of_z w8 c.signed_byte.result (record { sfits = c.signed_byte.type_inv }),
-      c.u16_at.ensures,
-      c.u16_at-2.ensures,
-      c.u16_at-3.ensures,
-      c.u16_at-4.ensures,
-      c.byte_at.ensures,
-      c.byte_at-2.ensures,
-      c.signed_byte.ensures,
-      c.byte_at-3.ensures,
-      c.reserved_at.ensures,
-    )
+  to_z-of_z w8 c.signed_byte.result (record { sfits = c.signed_byte.type_inv }),
+  c.u16_at.ensures,
+  c.u16_at-2.ensures,
+  c.u16_at-3.ensures,
+  c.u16_at-4.ensures,
+  c.byte_at.ensures,
+  c.byte_at-2.ensures,
+  c.signed_byte.ensures,
+  c.byte_at-3.ensures,
+  c.reserved_at.ensures,
+)

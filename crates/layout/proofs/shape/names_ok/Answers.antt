@@ -15,10 +15,10 @@ returns-then-not-name_ok c = let l = c.loop-left in
 
 pub loop-left-preserved : goal.loop-left-preserved
 loop-left-preserved c = let l = c.loop-left in (
-      omega arith,
-      goes (λ (p : ℕ). p) 33 l.at l.left (name_ok c.args.l.now) _ l.invariant.1 (omega arith)
-          (sym c.name_ok.ensures ∙ c.if-not-name_ok.false),
-    )
+  omega arith,
+  goes (λ (p : ℕ). p) 33 l.at l.left (name_ok c.args.l.now) _ l.invariant.1 (omega arith)
+      (sym c.name_ok.ensures ∙ c.if-not-name_ok.false),
+)
 
 pub returns : goal.returns
 returns c = ends (λ (p : ℕ). p) 33 c.loop-left.at c.loop-left.left (name_ok c.args.l.now) _ c.loop-left.invariant.1 (omega arith)
