@@ -1,3 +1,2 @@
 // What makes two tables equal, and laws about it: no code.
 #![tactic(auto)]
-

@@ -24,13 +24,13 @@ by_offset-requires-2 c = let z : length c.table_at-haves.result.now ≤ 16 * max
 
 pub loop-k-init : goal.loop-k-init
 loop-k-init c = let z : length c.table_at-haves.result.now ≤ 16 * max_struct_fields = rw c.table_at-haves.ensures c.requires.2 in (
-      omega arith,
-      omega (arith, c.by_offset.ensures.1),
-      omega (arith, c.by_offset-2.ensures.1),
-      omega arith,
-      orders (struct_at c.args.s.now c.args.h) (struct_at c.args.c.now c.args.g) _ _ c.table_at-haves.ensures c.table_at-wants.ensures
-          (sym c.struct_size.ensures ∙ c.if-struct_size.false ∙ c.struct_size-2.ensures) _ _ _ refl c.if-n-wants.false c.by_offset.ensures.0 c.by_offset-2.ensures.0,
-    )
+  omega arith,
+  omega (arith, c.by_offset.ensures.1),
+  omega (arith, c.by_offset-2.ensures.1),
+  omega arith,
+  orders (struct_at c.args.s.now c.args.h) (struct_at c.args.c.now c.args.g) _ _ c.table_at-haves.ensures c.table_at-wants.ensures
+      (sym c.struct_size.ensures ∙ c.if-struct_size.false ∙ c.struct_size-2.ensures) _ _ _ refl c.if-n-wants.false c.by_offset.ensures.0 c.by_offset-2.ensures.0,
+)
 
 pub returns-then-not-eq_except_def_index : goal.returns-then-not-eq_except_def_index
 returns-then-not-eq_except_def_index c = order-stops (field_at c.table_at-haves.result.now) (field_at c.table_at-wants.result.now) (length c.table_at-haves.result.now / 16) c.loop-k.k _ _ _ c.loop-k.invariant.4 c.loop-k.invariant.1 c.loop-k.invariant.2 (omega arith) _ _
