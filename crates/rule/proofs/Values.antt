@@ -28,12 +28,12 @@ use Rattle.rule.proofs.Planned.{If, Within, step_of-within, holds-is, holds_not}
 
 -- ---- the byte of a field is that of its own step
 
-pub every-at : (p : FieldDef → Bool) {ws : List Want} {w : Want} → Memᴰ w ws → every p (defs ws) ≡ true → p w.def ≡ true
+pub every-at : (p : FieldDef → Bool) {w : Want} {ws : List Want} → Memᴰ w ws → every p (defs ws) ≡ true → p w.def ≡ true
 unfolding every
 every-at p (Memᴰ.head {x = x} {xs = xs} e) k = ap (λ (v : Want). p v.def) e ∙ (both (p x.def) (every p (defs xs)) k).0
 every-at p (Memᴰ.tail {x = x} {xs = xs} m) k = every-at p m (both (p x.def) (every p (defs xs)) k).1
 
-pub rule-in : (cat : List ℕ) (haves : List FieldDef) {ws : List Want} {w : Want} (src : List ℕ) (i old : ℕ) → apart (defs ws) ≡ true → Memᴰ w ws → Covers w.def i
+pub rule-in : (cat : List ℕ) (haves : List FieldDef) {w : Want} {ws : List Want} (src : List ℕ) (i old : ℕ) → apart (defs ws) ≡ true → Memᴰ w ws → Covers w.def i
     → rule_byte cat haves ws src i old ≡ carried_byte src (step_of cat haves w) i old
 unfolding apart rule_byte first
 rule-in cat haves {w = w} src i old e (Memᴰ.head {x = x} {xs = xs} p) h =
