@@ -1,6 +1,5 @@
 use Rattle.tuppenceowl.specs.Answers.{found_of}
-use borrow.Author.Rules.{rules}
-use borrow.Author.Tests.{not-true, not-false, lt-ltb, le-ltb}
+use borrow.Author.Tests.{lt-ltb, le-ltb}
 use mathlib.Core.Path.{sym, ◌∙◌}
 use Rattle.tuppenceowl.proofs.field_of.Goals as goal
 
@@ -15,16 +14,16 @@ returns-then-not-reserved_ok c = rw (sym c.alone_ok.ensures ∙ c.if-not-alone_o
 pub returns-then-k-table : goal.returns-then-k-table
 unfolding found_of
 returns-then-k-table c = rw (
-      sym c.alone_ok.ensures ∙ c.if-not-alone_ok.false,
-      sym c.reserved_ok.ensures ∙ c.if-not-reserved_ok.false,
-      lt-ltb _ _ c.if-k-table.true,
-      c.field_in.ensures,
-    )
+  sym c.alone_ok.ensures ∙ c.if-not-alone_ok.false,
+  sym c.reserved_ok.ensures ∙ c.if-not-reserved_ok.false,
+  lt-ltb _ _ c.if-k-table.true,
+  c.field_in.ensures,
+)
 
 pub returns : goal.returns
 unfolding found_of
 returns c = rw (
-      sym c.alone_ok.ensures ∙ c.if-not-alone_ok.false,
-      sym c.reserved_ok.ensures ∙ c.if-not-reserved_ok.false,
-      le-ltb _ _ c.if-k-table.false,
-    )
+  sym c.alone_ok.ensures ∙ c.if-not-alone_ok.false,
+  sym c.reserved_ok.ensures ∙ c.if-not-reserved_ok.false,
+  le-ltb _ _ c.if-k-table.false,
+)

@@ -1,6 +1,5 @@
 -- A window that lies inside has an end that fits.
 use Prim.Native.Nat.{◌+◌}
-use borrow.Author.Rules.{rules}
 use borrow.Author.Tests.{leb-true}
 use lib.ListN.{length}
 use mathlib.Core.Path.{sym, ◌∙◌}

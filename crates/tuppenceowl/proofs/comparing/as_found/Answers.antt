@@ -1,4 +1,3 @@
-use borrow.Author.Rules.{rules}
 use Rattle.tuppenceowl.proofs.comparing.as_found.Goals as goal
 
 pub returns-in-Def : goal.returns-in-Def

@@ -1,5 +1,4 @@
 use Rattle.tuppenceowl.specs.Comparing.{found_by_name}
-use borrow.Author.Rules.{rules}
 use mathlib.Core.Path.{sym, ◌∙◌}
 use Rattle.tuppenceowl.proofs.comparing.field_by_name.Goals as goal
 

@@ -3,7 +3,6 @@ use Rattle.admission_rules.proofs.When.{admitted, front, rest}
 use Rattle.layout.proofs.Shapes.{shaped-few}
 use Rattle.layout.specs.Shape.{shape_ok}
 use Rattle.tuppenceowl.specs.Comparing.{judged_of}
-use borrow.Author.Rules.{rules}
 use borrow.Author.Tests.{le-ltb, lt-ltb}
 use mathlib.Core.List.{[], ◌∷◌}
 use mathlib.Core.Path.{◌∙◌, sym}

@@ -4,7 +4,6 @@ use Rattle.admission_rules.proofs.When.{admitted, front, rest}
 use Rattle.layout.proofs.Shapes.{shaped-few}
 use Rattle.layout.specs.Shape.{shape_ok}
 use Rattle.tuppenceowl.specs.Comparing.{judged_rtype}
-use borrow.Author.Rules.{rules}
 use mathlib.Core.List.{[], ◌∷◌}
 use mathlib.Core.Path.{◌∙◌, sym}
 use native.Mathlib.Omega.{arith}

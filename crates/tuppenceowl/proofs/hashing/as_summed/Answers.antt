@@ -1,4 +1,3 @@
-use borrow.Author.Rules.{rules}
 use Rattle.tuppenceowl.proofs.hashing.as_summed.Goals as goal
 
 pub returns-in-Sum : goal.returns-in-Sum

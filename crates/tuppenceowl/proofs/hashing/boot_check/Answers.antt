@@ -1,7 +1,5 @@
 -- A hash is that of a record of the layout, which stores one.
-use Rattle.hash_rules.proofs.Walks.{taken}
 use Rattle.tuppenceowl.proofs.Inside.{hash-inside}
-use borrow.Author.Rules.{rules}
 use borrow.Author.Tests.{eq-eqb, ne_eqb}
 use mathlib.Core.Path.{sym, ◌∙◌}
 use native.Mathlib.Omega.{arith}
@@ -9,11 +7,11 @@ use Rattle.tuppenceowl.proofs.hashing.boot_check.Goals as goal
 
 pub record_head-requires : goal.record_head-requires
 record_head-requires c = omega (
-      arith,
-      hash-inside c.args.cat.now c.args.layout.now c.args.k 65536 _ _ (sym c.in-Hash.is ∙ c.layout_hash.ensures),
-      c.shared_slice_known-2-1.given 0,
-      c.shared_slice_known-2-1.given 1,
-    )
+  arith,
+  hash-inside c.args.cat.now c.args.layout.now c.args.k 65536 _ _ (sym c.in-Hash.is ∙ c.layout_hash.ensures),
+  c.shared_slice_known-2-1.given 0,
+  c.shared_slice_known-2-1.given 1,
+)
 
 pub returns-then-fp-record_hash : goal.returns-then-fp-record_hash
 returns-then-fp-record_hash c = rw (sym c.layout_hash.ensures ∙ c.in-Hash.is, ← c.record_head.ensures.0, ← c.record_hash.ensures, eq-eqb _ _ c.if-fp-record_hash.true)

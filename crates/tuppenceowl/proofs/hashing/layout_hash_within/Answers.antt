@@ -2,12 +2,10 @@
 use Prim.Native.Nat.{◌<◌}
 use Rattle.admission_rules.proofs.When.{admitted, front}
 use Rattle.field.specs.declared.Holder.TheVariants.{Record}
-use Rattle.hash_rules.proofs.Walks.{taken}
 use Rattle.layout.proofs.Shapes.{few-in-record, shaped-few}
 use Rattle.layout.specs.Layout.{count_of}
 use Rattle.layout.specs.Shape.{shape_ok}
 use Rattle.tuppenceowl.specs.Answers.{summed_of}
-use borrow.Author.Rules.{rules}
 use borrow.Author.Tests.{lt-ltb, le-ltb}
 use mathlib.Core.List.{[], ◌∷◌}
 use mathlib.Core.Path.{sym, ◌∙◌}

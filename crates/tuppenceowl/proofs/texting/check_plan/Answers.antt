@@ -1,4 +1,3 @@
-use borrow.Author.Rules.{rules}
 use mathlib.Core.Path.{◌∙◌, sym}
 use Rattle.tuppenceowl.proofs.texting.check_plan.Goals as goal
 

@@ -1,5 +1,4 @@
 use Rattle.plan_read.proofs.Theorems.{reads}
-use borrow.Author.Rules.{rules}
 use Rattle.tuppenceowl.proofs.texting.read_plan.Goals as goal
 
 pub returns : goal.returns
