@@ -36,7 +36,7 @@ bytes-part s at n h = go (has_window s at n) where
 
 -- ---- one of the layouts lent
 
-every_one : {A : Type 0} (p : A → Bool) {xs : List A} {x : A} → Memᴰ x xs → every p xs ≡ true → p x ≡ true
+every_one : {A : Type 0} (p : A → Bool) {x : A} {xs : List A} → Memᴰ x xs → every p xs ≡ true → p x ≡ true
 unfolding every
 every_one p (Memᴰ.head {x = y} {xs = ys} e) k = ap p e ∙ (both (p y) (every p ys) k).0
 every_one p (Memᴰ.tail {x = y} {xs = ys} m) k = every_one p m (both (p y) (every p ys) k).1

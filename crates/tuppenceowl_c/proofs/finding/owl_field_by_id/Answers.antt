@@ -1,0 +1,5 @@
+use borrow.Author.Rules.{rules}
+use Rattle.tuppenceowl_c.proofs.finding.owl_field_by_id.Goals as goal
+
+pub returns : goal.returns
+returns c = rw (← c.field_by_id.ensures) c.tell.ensures
