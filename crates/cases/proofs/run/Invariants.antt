@@ -1,4 +1,3 @@
-use Rattle.std.proofs.Common.{◌-◌}
 use Rattle.cases.proofs.run.Given as goal
 
 abbrev pub invariant-loop-turns : goal.invariant-loop-turns

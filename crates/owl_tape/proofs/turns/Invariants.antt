@@ -1,4 +1,3 @@
-use Rattle.std.proofs.Common.{◌-◌}
 use Rattle.owl_tape.proofs.turns.Given as goal
 
 abbrev pub invariant-loop-left : goal.invariant-loop-left
