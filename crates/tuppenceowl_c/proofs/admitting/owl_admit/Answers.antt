@@ -1,4 +1,3 @@
-use borrow.Author.Rules.{rules}
 use Rattle.tuppenceowl_c.proofs.admitting.owl_admit.Goals as goal
 
 pub returns : goal.returns

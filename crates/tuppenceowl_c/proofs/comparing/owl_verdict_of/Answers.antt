@@ -1,4 +1,3 @@
-use borrow.Author.Rules.{rules}
 use Rattle.tuppenceowl_c.proofs.comparing.owl_verdict_of.Goals as goal
 
 pub returns : goal.returns

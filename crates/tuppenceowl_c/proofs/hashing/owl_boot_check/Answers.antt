@@ -1,4 +1,3 @@
-use borrow.Author.Rules.{rules}
 use mathlib.Core.Path.{◌∙◌, sym}
 use Rattle.tuppenceowl_c.proofs.hashing.owl_boot_check.Goals as goal
 

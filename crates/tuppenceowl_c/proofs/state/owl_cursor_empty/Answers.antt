@@ -1,4 +1,3 @@
-use borrow.Author.Rules.{rules}
 use Rattle.tuppenceowl_c.proofs.state.owl_cursor_empty.Goals as goal
 
 pub returns : goal.returns

@@ -1,4 +1,3 @@
-use borrow.Author.Rules.{rules}
 use Rattle.tuppenceowl_c.proofs.state.state_out.Goals as goal
 
 pub returns : goal.returns

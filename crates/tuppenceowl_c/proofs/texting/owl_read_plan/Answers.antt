@@ -1,4 +1,3 @@
-use borrow.Author.Rules.{rules}
 use Rattle.tuppenceowl_c.proofs.texting.owl_read_plan.Goals as goal
 
 pub returns-in-Read : goal.returns-in-Read

@@ -1,9 +1,0 @@
-use Rattle.calls_rules.specs.Calls.{scalar_of}
-use Rattle.tuppenceowl_c.proofs.Telling.{telling}
-use borrow.Author.Rules.{rules}
-use Rattle.tuppenceowl_c.proofs.building.owl_cursor_scalar.Goals as goal
-
-pub returns : goal.returns
-returns c = let a = c.args in
-    telling (scalar_of a.cat.now a.field_id a.type_id a.size a.flags a.def_index a.name.now) a.state.now a.table.now a.names.now
-    c.state_in-c.ensures c.scalar-p.ensures c.tell.ensures
