@@ -1,5 +1,5 @@
 // A text of layouts, as people write them (docs/OWL.md): items, one a line, read into the bytes that the public calls take.
-mod defaults;
+mod default_bytes;
 pub mod fault;
 mod fields;
 mod items;

@@ -1,6 +1,6 @@
 // The item 'field': its words, the call of the field cursor, and what a target's field has besides.
 use crate::layouts::state::State;
-use crate::layouts::{defaults, fault, state, words};
+use crate::layouts::{default_bytes, fault, state, words};
 use caseline::Parsed;
 use cursor_rules::{FieldCursor, Placed, Times};
 use field::Holder;
@@ -118,12 +118,12 @@ fn kept(line: &[u8], room: &mut Room, f: Field, s: State) -> State {
         return state::bad(s, SHORTEST, fault::NO_DEFAULT);
     }
     if f.marked {
-        if f.counted | !defaults::mark(room, f.kind, s) {
+        if f.counted | !default_bytes::mark(room, f.kind, s) {
             return state::bad(s, 3, fault::NO_MARK);
         }
     }
     if f.defaulted {
-        return defaults::put(line, room, f.end, s);
+        return default_bytes::put(line, room, f.end, s);
     }
     s
 }
