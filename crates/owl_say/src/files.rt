@@ -31,15 +31,11 @@ pub fn has_arg(rt: &impl Env, k: usize) -> bool {
     }
 }
 
-// Puts argument k at the start of word, or as much of it as fits, and tells how many bytes; none where there is no such argument.
+// Puts argument k at the start of word and tells how many bytes; none where there is no such argument, or where it does not fit.
 pub fn arg(rt: &impl Env, k: usize, word: &mut [u8]) -> usize
     ensures { result ≤ length word.new }
 {
-    match rt.arg(k, word) {
-        Ok(n) => n,
-        Err(FillError::TooLong) => word.len(),
-        Err(FillError::NotPresent) => 0,
-    }
+    rt.arg(k, word).unwrap_or(0)
 }
 
 pub fn say_arg(rt: &impl Env, stream: &impl Print, k: usize) -> io::Result<()> {
