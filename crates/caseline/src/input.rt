@@ -16,8 +16,10 @@ pub fn room() -> Room
     [0; ROOM_SIZE]
 }
 
+// An error is the reader's; it leaves the buffer as long as it was.
 fn read(reader: &mut impl Read, buf: &mut [u8]) -> io::Result<usize>
-    ensures { IfOk result (λ n. n ≤ length buf.old) }
+    ensures inside { IfOk result (λ n. n ≤ length buf.old) }
+    ensures kept { length buf.new ≡ length buf.old }
 {
     reader.read(buf)
 }
