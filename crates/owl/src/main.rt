@@ -31,11 +31,7 @@ fn make(
     Ok(())
 }
 
-fn on_layouts(
-    rt: &(impl Env + Files + AllocGlobal + Print),
-    stderr: &impl Print,
-    hash: bool,
-) -> io::Result<()> {
+fn on_layouts(rt: &(impl Env + Files + Print), stderr: &impl Print, hash: bool) -> io::Result<()> {
     let mut text = [0u8; files::ROOM];
     match files::load_second(rt, stderr, &mut text, 3)? {
         Loaded::Bytes(n) => make(rt, stderr, &text, n, hash),

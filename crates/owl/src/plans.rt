@@ -11,7 +11,7 @@ const HEADER: usize = 16;
 
 // Whether a plan stands in the slot; if not, it was said why, of a text that is no plan to `stream`.
 fn load(
-    rt: &(impl Env + Files + AllocGlobal),
+    rt: &(impl Env + Files),
     stderr: &impl Print,
     stream: &impl Print,
     slot: &mut Slot,
@@ -26,7 +26,7 @@ fn load(
 
 // ---- the commands
 
-pub fn check(rt: &(impl Env + Files + AllocGlobal + Print), stderr: &impl Print) -> io::Result<()> {
+pub fn check(rt: &(impl Env + Files + Print), stderr: &impl Print) -> io::Result<()> {
     let mut slot = [0u8; slot::SIZE];
     // Here it is the result.
     if load(rt, stderr, rt, &mut slot, 3)? {
@@ -35,7 +35,7 @@ pub fn check(rt: &(impl Env + Files + AllocGlobal + Print), stderr: &impl Print)
     Ok(())
 }
 
-pub fn map(rt: &(impl Env + Files + AllocGlobal + Print), stderr: &impl Print) -> io::Result<()> {
+pub fn map(rt: &(impl Env + Files + Print), stderr: &impl Print) -> io::Result<()> {
     let mut slot = [0u8; slot::SIZE];
     if load(rt, stderr, stderr, &mut slot, 3)? {
         owl_map::draw(rt, &slot)?;
@@ -52,10 +52,7 @@ fn header(rt: &impl Env) -> Parsed {
     caseline::short(&word[..n])
 }
 
-pub fn upgrade(
-    rt: &(impl Env + Files + AllocGlobal + Input + Print),
-    stderr: &impl Print,
-) -> io::Result<()> {
+pub fn upgrade(rt: &(impl Env + Files + Input + Print), stderr: &impl Print) -> io::Result<()> {
     let Parsed::Is(n) = header(rt) else {
         owl_say::complain(stderr, b"owl: '")?;
         files::complain_arg(rt, stderr, 3)?;

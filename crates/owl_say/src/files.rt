@@ -1,10 +1,11 @@
 // The file that an argument names, read whole.
 ghost use Rattle.std.specs.Prelude.{◌≤◌, length};
 
-use caseline::input;
+use caseline::{input, put};
 use std::env::FillError;
+use std::fmt::Write;
 use std::rt::{Env, Files};
-use std::{fs, io, str};
+use std::{fmt, fs, io, str};
 
 // More than the longest plan text, and room for some two thousand lines of layouts.
 pub const ROOM: usize = 65536;
@@ -50,32 +51,41 @@ pub fn complain_arg(rt: &impl Env, stderr: &impl Print, k: usize) -> io::Result<
 
 // ---- files
 
-// The system's words for an error, without its number.
-fn fail(
-    rt: &impl AllocGlobal,
-    stderr: &impl Print,
-    what: &[u8],
-    error: io::Error,
-) -> io::Result<()> {
-    let text = format!(in rt.alloc(); "{error}")?;
-    let end = caseline::find(text.as_bytes(), 0, b'(');
+// The system's words for an error, as they come: as many as fit.
+#[derive(Drop)]
+struct Words {
+    text: [u8; 256],
+    end: usize,
+}
+
+impl Write for Words {
+    fn write_str(&mut self, s: &str) -> fmt::Result {
+        self.end = put::text(&mut self.text, self.end, s.as_bytes());
+        Ok(())
+    }
+}
+
+// Those words, without the number that stands in brackets behind them.
+fn fail(stderr: &impl Print, what: &[u8], error: io::Error) -> io::Result<()> {
+    let mut words = Words {
+        text: [0; 256],
+        end: 0,
+    };
+    let _ = write!(words, "{error}");
+    let text = lent::part(&words.text, 0, words.end);
+    let end = caseline::find(text, 0, b'(');
     crate::complain(stderr, what)?;
     crate::complain(stderr, b": ")?;
-    crate::complain(stderr, text.as_bytes()[..end].trim_ascii_end())?;
+    crate::complain(stderr, text[..end].trim_ascii_end())?;
     crate::complain(stderr, b"\n")
 }
 
-fn read(
-    rt: &(impl Files + AllocGlobal),
-    stderr: &impl Print,
-    path: &str,
-    text: &mut Text,
-) -> io::Result<Loaded> {
+fn read(rt: &impl Files, stderr: &impl Print, path: &str, text: &mut Text) -> io::Result<Loaded> {
     let name = path.as_bytes();
     let mut file = match fs::open(rt, path) {
         Ok(file) => file,
         Err(e) => {
-            fail(rt, stderr, name, e)?;
+            fail(stderr, name, e)?;
             return Ok(Loaded::Failed);
         }
     };
@@ -83,7 +93,7 @@ fn read(
         Ok(n) => n,
         // One that cannot be read, as a directory.
         Err(e) => {
-            fail(rt, stderr, name, e)?;
+            fail(stderr, name, e)?;
             return Ok(Loaded::Failed);
         }
     };
@@ -107,7 +117,7 @@ fn read(
 
 // The file that argument k names.
 pub fn load(
-    rt: &(impl Env + Files + AllocGlobal),
+    rt: &(impl Env + Files),
     stderr: &impl Print,
     k: usize,
     text: &mut Text,
@@ -136,7 +146,7 @@ pub fn load(
 
 // The file behind the command, which has at most so many words, its own name among them.
 pub fn load_second(
-    rt: &(impl Env + Files + AllocGlobal),
+    rt: &(impl Env + Files),
     stderr: &impl Print,
     text: &mut Text,
     most: usize,
