@@ -1,4 +1,5 @@
 -- Layouts whose tables are tidy are admitted. Assumes nothing.
+use Rattle.std.specs.Prelude.{Ok}
 use mathlib.Core.Path.{◌≡◌, refl}
 use mathlib.Core.Bool.{Bool, true}
 use mathlib.Core.List.{List, [], ◌∷◌}
@@ -15,7 +16,6 @@ use Rattle.field.specs.declared.Holder.TheVariants.{Record, Struct}
 use Rattle.admission_rules.specs.Admission.{head_ok, layout_ok, admit_tables}
 use Rattle.admission_rules.specs.Parts.{head_passes, layout_passes}
 use Rattle.admission_rules.specs.declared.Test.TheVariants.{Tidy}
-use Rattle.admission_rules.specs.declared.Admitted.TheVariants.{Fine}
 
 -- a test that follows from another
 implied : {A : Type 0} (p q : A → Bool) → ((x : A) → p x ≡ true → q x ≡ true) → (xs : List A) → every p xs ≡ true → every q xs ≡ true
@@ -36,5 +36,5 @@ module _ (cat : List ℕ) (rule : Rule) where
   all_keep : (ls : List (List ℕ)) → every (layout_passes Tidy cat) ls ≡ true → every (layout_ok rule cat) ls ≡ true
   all_keep = implied (layout_passes Tidy cat) (layout_ok rule cat) layout-keeps
 
-pub tidy-fine : (cat : List ℕ) (ls : List (List ℕ)) → every (layout_passes Tidy cat) ls ≡ true → Fine ≡ admit_tables cat ls
+pub tidy-fine : (cat : List ℕ) (ls : List (List ℕ)) → every (layout_passes Tidy cat) ls ≡ true → (Ok tt) ≡ admit_tables cat ls
 tidy-fine cat ls e = rw (all_keep cat Reserved ls e, all_keep cat Bounds ls e, all_keep cat Apart ls e, all_keep cat Width ls e)

@@ -1,5 +1,6 @@
 -- What an admitted layout has passed. Assumes nothing.
-use mathlib.Core.Path.{◌≡◌, refl}
+use Rattle.std.specs.Prelude.{Err, Ok, Result}
+use mathlib.Core.Path.{◌≡◌, refl, ap}
 use mathlib.Core.Bool.{Bool, true, false}
 use mathlib.Core.List.{List, ◌∷◌}
 use Prim.Native.Nat.{ℕ}
@@ -11,11 +12,12 @@ use Rattle.catalogue.specs.Catalogue.{catalogue_ok}
 use Rattle.layout.specs.Shape.{shape_ok}
 use Rattle.table_rules.specs.declared.Rule.{Rule}
 use Rattle.table_rules.specs.declared.Rule.TheVariants.{Reserved, Bounds, Apart, Width}
-use Rattle.admission_rules.specs.Admission.{layout_ok, unless, admit_all}
-use Rattle.admission_rules.specs.declared.Admitted.{Admitted}
-use Rattle.admission_rules.specs.declared.Admitted.TheVariants.{Fine}
+use Rattle.admission_rules.specs.Admission.{layout_ok, unless, admit_all, failed}
+use Rattle.limits.specs.declared.refusal.Failure.{Failure}
+use Rattle.limits.specs.declared.refusal.Failure.TheVariants.{Refused}
+use Rattle.std.specs.Result.{IsErrAnd}
 
-passed : (p : Bool) (refusal : Refusal) (rest : Admitted) → unless p refusal rest ≡ Fine → (p ≡ true) × (rest ≡ Fine)
+passed : (p : Bool) (refusal : Refusal) (rest : Result (Unit {0}) Refusal) → unless p refusal rest ≡ (Ok tt) → (p ≡ true) × (rest ≡ (Ok tt))
 passed true refusal rest e = (refl, e)
 passed false refusal rest e = absurd (let z : ◌≡◌ {A = ℕ} 0 1 = cc in omega arith)
 
@@ -31,7 +33,7 @@ pub record Passed (cat : List ℕ) (ls : List (List ℕ)) : Type 0 where
   pub shaped : every shape_ok ls ≡ true
   pub rules : (rule : Rule) → every (layout_ok rule cat) ls ≡ true
 
-pub admitted : (cat : List ℕ) (ls : List (List ℕ)) → admit_all cat ls ≡ Fine → Passed cat ls
+pub admitted : (cat : List ℕ) (ls : List (List ℕ)) → admit_all cat ls ≡ (Ok tt) → Passed cat ls
 unfolding admit_all
 admitted cat ls e =
     let a = passed (catalogue_ok cat) _ _ e in
@@ -52,3 +54,8 @@ module _ (test : List ℕ → Bool) (l : List ℕ) (ls : List (List ℕ)) (all :
   pub rest : every test ls ≡ true
   unfolding every
   rest = (both (test l) (every test ls) all).1
+
+-- what the exit of a `?` on admission answers, of a call on records
+pub raised : {A : Type 0} (r : Result A Failure) (refusal : Refusal) → IsErrAnd r (λ failure. failure ≡ Refused refusal) → r ≡ failed refusal
+raised (Ok x) refusal e = absurd e
+raised (Err failure) refusal e = ap Err e

@@ -6,13 +6,16 @@ ghost use Rattle.limits.specs.Limits.{max_bytes};
 ghost use Rattle.catalogue.specs.Catalogue.{width_of};
 ghost use Rattle.field.specs.Field.{fields_of};
 ghost use Rattle.layout.specs.Layout.{struct_at};
-ghost use Rattle.cursor_rules.specs.Cursor.{building, outcome};
-ghost use Rattle.calls_rules.specs.Calls.{takes_scalar, scale_of, scalar_of, string_of, like_of, widest, times_of, times_flag, nested_size, nested_of, noted, noted_in, base_end, finish_base_of, ended_of};
+ghost use Rattle.cursor_rules.specs.Cursor.{move_to};
+ghost use Rattle.builders.specs.Builder.{building_of, outcome_of, state_or, SameLent};
+ghost use Rattle.calls_rules.specs.Calls.{takes_scalar, scale_of, scalar_of, string_of, like_of, widest, times_of, times_flag, nested_size, nested_of, noted, noted_all, base_end, finish_base_of, ended_of};
 
 use builders::placing;
-use cursor_rules::{FieldCursor, Placed, Times};
+use builders::placing::Builder;
+use cursor_rules::{FieldCursor, Times};
 use field::{FieldDef, Holder};
 use layout::block;
+use layout::block::Head;
 use limits::refusal::Refusal;
 
 // What the document gives a decimal.
@@ -39,22 +42,22 @@ fn scale_of(cat: &[u8], id: u8) -> i8
 fn width(cat: &[u8], id: u8) -> usize
     ensures { (result ≡ width_of cat.now id) × (result < 16) }
 {
-    lent::wide8(catalogue::width_of(cat, id))
+    catalogue::width_of(cat, id) as usize
 }
 
 pub fn scalar(
+    b: &mut Builder<'_>,
     cat: &[u8],
-    table: &mut [u8],
-    names: &mut [u8],
-    c: FieldCursor,
     field_id: u16,
     type_id: u8,
     size: u16,
     flags: u8,
     def_index: u16,
     name: &[u8],
-) -> Placed
-    ensures { outcome result table.new names.new ≡ scalar_of cat.now field_id type_id size flags def_index name.now (building c table.old names.old) }
+) -> Result<FieldCursor, Refusal>
+    ensures made { outcome_of result b.new ≡ scalar_of cat.now field_id type_id size flags def_index name.now (building_of b.old) }
+    ensures same { SameLent b.old b.new }
+    ensures stands { b.new.state ≡ state_or b.old.state result }
 {
     let f = FieldDef {
         field_id,
@@ -67,21 +70,21 @@ pub fn scalar(
         reserved: 0,
     };
     let takes = takes_scalar(cat, type_id);
-    placing::place(cat, table, names, c, takes, width(cat, type_id), f, name)
+    b.place(cat, takes, width(cat, type_id), f, name)
 }
 
 pub fn string(
+    b: &mut Builder<'_>,
     cat: &[u8],
-    table: &mut [u8],
-    names: &mut [u8],
-    c: FieldCursor,
     field_id: u16,
     type_id: u8,
     size: u16,
     flags: u8,
     name: &[u8],
-) -> Placed
-    ensures { outcome result table.new names.new ≡ string_of cat.now field_id type_id size flags name.now (building c table.old names.old) }
+) -> Result<FieldCursor, Refusal>
+    ensures made { outcome_of result b.new ≡ string_of cat.now field_id type_id size flags name.now (building_of b.old) }
+    ensures same { SameLent b.old b.new }
+    ensures stands { b.new.state ≡ state_or b.old.state result }
 {
     let f = FieldDef {
         field_id,
@@ -94,34 +97,30 @@ pub fn string(
         reserved: 0,
     };
     let takes = catalogue::class_of(cat, type_id) == catalogue::STRING;
-    placing::place(cat, table, names, c, takes, 1, f, name)
+    b.place(cat, takes, 1, f, name)
 }
 
 // The numbers of another field, all but its place and its def_index.
 pub fn like(
+    b: &mut Builder<'_>,
     cat: &[u8],
-    table: &mut [u8],
-    names: &mut [u8],
-    c: FieldCursor,
     def: FieldDef,
     def_index: u16,
     name: &[u8],
-) -> Placed
-    ensures { outcome result table.new names.new ≡ like_of cat.now def def_index name.now (building c table.old names.old) }
+) -> Result<FieldCursor, Refusal>
+    ensures made { outcome_of result b.new ≡ like_of cat.now def def_index name.now (building_of b.old) }
+    ensures same { SameLent b.old b.new }
+    ensures stands { b.new.state ≡ state_or b.old.state result }
 {
     let id = def.type_id;
     let f = FieldDef {
-        field_id: def.field_id,
         offset: 0,
-        size: def.size,
-        type_id: id,
-        flags: def.flags,
         def_index,
-        scale: def.scale,
         reserved: 0,
+        ..def
     };
     let takes = catalogue::class_of(cat, id) != catalogue::STRUCT;
-    placing::place(cat, table, names, c, takes, width(cat, id), f, name)
+    b.place(cat, takes, width(cat, id), f, name)
 }
 
 // ---- a struct of a layout
@@ -130,13 +129,8 @@ fn widest(cat: &[u8], t: &[u8]) -> usize
     ensures { (result ≡ widest cat.now (fields_of t.now)) × (result < 16) }
 {
     let mut most: usize = 0;
-    let mut at = 0;
-    let mut left = t.len() / field::SIZE;
-    while left != 0 {
-        let f = field::field_in(t, at);
-        most = lent::greater(most, width(cat, f.type_id));
-        at += field::SIZE;
-        left -= 1;
+    for f in field::rows::rows_of(t) {
+        most = most.max(width(cat, f.type_id));
     }
     most
 }
@@ -146,7 +140,7 @@ fn times_of(times: Times) -> usize
 {
     match times {
         Times::One => 1,
-        Times::Array(n) => lent::wide16(n),
+        Times::Array(n) => n as usize,
     }
 }
 
@@ -160,11 +154,10 @@ fn times_flag(cat: &[u8], times: Times) -> u8
 }
 
 // What its head says, in four bytes.
-fn struct_bytes(l: &[u8], h: usize) -> usize
-    requires { h < 8589934592 }
+fn struct_bytes(l: &[u8], h: Head) -> usize
     ensures { (result ≡ (struct_at l.now h).size) × (result < 4294967296) }
 {
-    lent::u32_at(l, h)
+    lent::u32_at(l, h.at())
 }
 
 // All of them together: four bytes times two, so that no product wraps.
@@ -172,22 +165,22 @@ fn nested_size(l: &[u8], k: u16, times: Times) -> u16
     ensures { result ≡ nested_size l.now k times }
 {
     let size = struct_bytes(l, block::struct_head(l, k));
-    lent::lesser(size * times_of(times), limits::MAX_BYTES + 1) as u16
+    (size * times_of(times)).min(limits::MAX_BYTES + 1) as u16
 }
 
 // Struct k of a layout, once or as an array.
 pub fn nested(
+    b: &mut Builder<'_>,
     cat: &[u8],
     l: &[u8],
-    table: &mut [u8],
-    names: &mut [u8],
-    c: FieldCursor,
     field_id: u16,
     k: u16,
     times: Times,
     name: &[u8],
-) -> Placed
-    ensures { outcome result table.new names.new ≡ nested_of cat.now l.now field_id k times name.now (building c table.old names.old) }
+) -> Result<FieldCursor, Refusal>
+    ensures made { outcome_of result b.new ≡ nested_of cat.now l.now field_id k times name.now (building_of b.old) }
+    ensures same { SameLent b.old b.new }
+    ensures stands { b.new.state ≡ state_or b.old.state result }
 {
     let f = FieldDef {
         field_id,
@@ -199,12 +192,12 @@ pub fn nested(
         scale: 0,
         reserved: 0,
     };
-    let takes = lent::wide16(k) < block::count_of(Holder::Struct, l);
+    let takes = (k as usize) < block::count_of(Holder::Struct, l);
     let align = widest(
         cat,
         block::table_at(Holder::Struct, l, block::struct_head(l, k)),
     );
-    placing::place(cat, table, names, c, takes, align, f, name)
+    b.place(cat, takes, align, f, name)
 }
 
 // ---- the base
@@ -218,13 +211,10 @@ fn base_of(c: FieldCursor) -> usize
 fn noted(c: FieldCursor) -> FieldCursor
     ensures { result ≡ noted c }
 {
-    let base = base_of(c);
     FieldCursor {
-        most: c.most,
-        count: c.count,
-        cursor: c.cursor,
-        base,
+        base: base_of(c),
         based: true,
+        ..c
     }
 }
 
@@ -240,31 +230,37 @@ fn base_end(c: FieldCursor) -> usize
     }
 }
 
-fn note(placed: Placed) -> Placed
-    ensures { result ≡ noted_in placed }
+// Pads up to `to`, and notes the base if need be.
+fn end_at(b: &mut Builder<'_>, cat: &[u8], to: usize) -> Result<FieldCursor, Refusal>
+    ensures made { outcome_of result b.new ≡ noted_all (move_to cat.now to (building_of b.old)) }
+    ensures same { SameLent b.old b.new }
+    ensures stands { b.new.state ≡ state_or b.old.state result }
 {
-    match placed {
-        Placed::At(c) => Placed::At(noted(c)),
-        Placed::Refused(refusal) => Placed::Refused(refusal),
-    }
+    let moved = b.move_to(cat, to)?;
+    b.state = noted(moved);
+    Ok(b.state)
 }
 
 // Pads to 8 and notes the base; a second call only returns it.
-pub fn finish_base(cat: &[u8], table: &mut [u8], names: &mut [u8], c: FieldCursor) -> Placed
-    ensures { outcome result table.new names.new ≡ finish_base_of cat.now (building c table.old names.old) }
+pub fn finish_base(b: &mut Builder<'_>, cat: &[u8]) -> Result<FieldCursor, Refusal>
+    ensures made { outcome_of result b.new ≡ finish_base_of cat.now (building_of b.old) }
+    ensures same { SameLent b.old b.new }
+    ensures stands { b.new.state ≡ state_or b.old.state result }
 {
-    if limits::MAX_BYTES < c.cursor {
-        return Placed::Refused(Refusal::CursorFull);
+    if limits::MAX_BYTES < b.state.cursor {
+        return Err(Refusal::CursorFull);
     }
-    note(placing::move_to(cat, table, names, c, base_end(c)))
+    end_at(b, cat, base_end(b.state))
 }
 
 // Pads to 8, and notes the base if need be.
-pub fn finish_all(cat: &[u8], table: &mut [u8], names: &mut [u8], c: FieldCursor) -> Placed
-    ensures { outcome result table.new names.new ≡ ended_of cat.now (building c table.old names.old) }
+pub fn finish_all(b: &mut Builder<'_>, cat: &[u8]) -> Result<FieldCursor, Refusal>
+    ensures made { outcome_of result b.new ≡ ended_of cat.now (building_of b.old) }
+    ensures same { SameLent b.old b.new }
+    ensures stands { b.new.state ≡ state_or b.old.state result }
 {
-    if limits::MAX_BYTES < c.cursor {
-        return Placed::Refused(Refusal::CursorFull);
+    if limits::MAX_BYTES < b.state.cursor {
+        return Err(Refusal::CursorFull);
     }
-    note(placing::move_to(cat, table, names, c, placing::align_up(c.cursor, EIGHT)))
+    end_at(b, cat, placing::align_up(b.state.cursor, EIGHT))
 }

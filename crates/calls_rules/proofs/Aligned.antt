@@ -11,14 +11,15 @@ use Rattle.catalogue.specs.Catalogue.{width_of}
 use Rattle.field.specs.Field.{end_of}
 use Rattle.field.specs.declared.FieldDef.{FieldDef}
 use Rattle.cursor_rules.specs.Cursor.{Building, done, refuse, align_up, push, pad_to, gaps, fits, size_ok, laid, lay, place}
-use Rattle.cursor_rules.specs.declared.Placed.{Placed}
-use Rattle.cursor_rules.specs.declared.Placed.TheVariants.{At, Refused}
 use Rattle.calls_rules.specs.Calls.{scalar_of, string_of}
+use Rattle.std.specs.Prelude.{Result, Ok, Err}
+use Rattle.limits.specs.declared.refusal.Refusal.{Refusal}
+use Rattle.cursor_rules.specs.declared.FieldCursor.{FieldCursor}
 
 -- a call that is not refused leaves the cursor there
-abbrev pub EndsAt : ℕ → Placed → Type 0
-EndsAt end (At c) = c.cursor ≡ end
-EndsAt end (Refused refusal) = Unit {0}
+abbrev pub EndsAt : ℕ → Result FieldCursor Refusal → Type 0
+EndsAt end (Ok c) = c.cursor ≡ end
+EndsAt end (Err refusal) = Unit {0}
 
 module _ (cat name : List ℕ) (b : Building) where
   placed : (takes : Bool) (align : ℕ) (f : FieldDef) → EndsAt (align_up b.state.cursor align + f.size) (place cat takes align f name b).answer

@@ -1,5 +1,5 @@
 -- The calls of the field cursor: which kinds each takes, how it aligns, and the field that it places.
-use Rattle.std.specs.Prelude.{ℕ, ◌+◌, ◌*◌, min, Bool, true, cond, not, ◌&&◌, List, leb, ltb, eqb, ℤ, pos, negsuc}
+use Rattle.std.specs.Prelude.{Result, Ok, Err, ℕ, ◌+◌, ◌*◌, min, Bool, true, cond, not, ◌&&◌, List, leb, ltb, eqb, ℤ, pos, negsuc}
 use Rattle.limits.specs.Limits.{max_bytes}
 use Rattle.lent.specs.Scan.{highest}
 use Rattle.catalogue.specs.Catalogue.{class_of, width_of, array_flag, id_of, decimal, string, struct}
@@ -11,8 +11,7 @@ use Rattle.cursor_rules.specs.Cursor.{Building, Outcome, align_up, place, move_t
 use Rattle.cursor_rules.specs.declared.FieldCursor.{FieldCursor}
 use Rattle.cursor_rules.specs.declared.Times.{Times}
 use Rattle.cursor_rules.specs.declared.Times.TheVariants.{One, Array}
-use Rattle.cursor_rules.specs.declared.Placed.{Placed}
-use Rattle.cursor_rules.specs.declared.Placed.TheVariants.{At, Refused}
+use Rattle.limits.specs.declared.refusal.Refusal.{Refusal}
 
 -- ---- scalar: other, unsigned, signed and decimal ids that have a width
 
@@ -94,9 +93,9 @@ at_of cat offset = move_to cat offset
 abbrev pub noted : FieldCursor → FieldCursor
 noted c = record { most = c.most; count = c.count; cursor = c.cursor; base = cond c.based c.base c.cursor; based = true }
 
-abbrev pub noted_in : Placed → Placed
-noted_in (At c) = At (noted c)
-noted_in (Refused refusal) = Refused refusal
+abbrev pub noted_in : Result FieldCursor Refusal → Result FieldCursor Refusal
+noted_in (Ok c) = Ok (noted c)
+noted_in (Err refusal) = Err refusal
 
 abbrev pub noted_all : Outcome → Outcome
 noted_all o = outcome (noted_in o.answer) o.table o.names

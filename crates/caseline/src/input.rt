@@ -1,4 +1,4 @@
-// The buffer that standard input is read into, piece by piece.
+// Standard input: read whole into lent bytes, or piece by piece and line by line.
 ghost use Rattle.std.specs.Prelude.{◌≡◌, ◌≤◌, length, IfOk};
 
 use std::io;
@@ -7,14 +7,7 @@ use std::io::Read;
 // More than the longest line.
 pub const ROOM_SIZE: usize = 131072;
 
-pub type Room = [u8; ROOM_SIZE];
-
-// The `ensures` gives only the length, which lending it needs.
-pub fn room() -> Room
-    ensures { 131072 ≡ length result }
-{
-    [0; ROOM_SIZE]
-}
+const NEWLINE: u8 = b'\n';
 
 // An error is the reader's; it leaves the buffer as long as it was.
 fn read(reader: &mut impl Read, buf: &mut [u8]) -> io::Result<usize>
@@ -29,6 +22,7 @@ pub fn read_full(reader: &mut impl Read, buf: &mut [u8]) -> io::Result<usize>
     ensures { IfOk result (λ n. n ≤ length buf.new) }
 {
     let mut done = 0;
+    // Each turn goes on by as many bytes as the reader gives, so no range counts the turns.
     while done < buf.len() {
         let got = read(reader, &mut buf[done..])?;
         if got == 0 {
@@ -39,35 +33,48 @@ pub fn read_full(reader: &mut impl Read, buf: &mut [u8]) -> io::Result<usize>
     Ok(done)
 }
 
-// Reads once behind the first `have` bytes, and tells how many there are then.
-pub fn more(reader: &mut impl Read, input: &mut [u8], have: usize) -> io::Result<usize> {
-    if have < input.len() {
-        let got = read(reader, &mut input[have..])?;
-        return Ok(have + got);
+// Calls `answer` on each line that has its end, and tells where the rest starts.
+fn whole_lines<F: FnMut(&[u8]) -> io::Result<()>>(bytes: &[u8], answer: &mut F) -> io::Result<usize>
+    requires { F.IsAlwaysCallable answer.old }
+    ensures inside { IfOk result (λ rest. rest ≤ length bytes.now) }
+    ensures callable { F.IsAlwaysCallable answer.new }
+{
+    let Some(last) = bytes.iter().rposition(|b| *b == NEWLINE) else {
+        return Ok(0);
+    };
+    for line in bytes[..last].split(|b| *b == NEWLINE) {
+        answer(line)?;
     }
-    Ok(have)
+    Ok(last + 1)
 }
 
-// Moves the bytes from `from` up to `to` to the front, and tells how many.
-pub fn to_front(input: &mut [u8], from: usize, to: usize) -> usize {
-    if input.len() < to {
-        return 0;
+// Calls `answer` on each line of what is read, the last one too if it lacks its end. A line that fills the room goes, but for
+// a byte that no word starts with: so its answer is that it is malformed.
+pub fn each_line<F: FnMut(&[u8]) -> io::Result<()>>(
+    reader: &mut impl Read,
+    mut answer: F,
+) -> io::Result<()>
+    requires { F.IsAlwaysCallable answer }
+{
+    let mut room = [0; ROOM_SIZE];
+    let mut waiting = 0;
+    // Nothing says that the input ends: so many turns no run uses up.
+    for _ in 0..u64::MAX {
+        let got = read(reader, &mut room[waiting..])?;
+        let have = waiting + got;
+        if got == 0 {
+            if have != 0 {
+                answer(&room[..have])?;
+            }
+            return Ok(());
+        }
+        let rest = whole_lines(&room[..have], &mut answer)?;
+        room.copy_within(rest..have, 0);
+        waiting = have - rest;
+        if waiting == ROOM_SIZE {
+            room[0] = b'?';
+            waiting = 1;
+        }
     }
-    let mut n = 0;
-    let mut at = from;
-    while at < to {
-        input[n] = input[at];
-        n += 1;
-        at += 1;
-    }
-    n
-}
-
-// A line that fills the buffer goes, but for a byte that no word starts with: so its answer is that it is malformed.
-pub fn without_long(input: &mut Room, have: usize) -> usize {
-    if have < ROOM_SIZE {
-        return have;
-    }
-    input[0] = b'?';
-    1
+    Ok(())
 }

@@ -1,18 +1,17 @@
-// An answer, by value, and how it is put.
-use caseline::put;
+// An answer, and how it is printed.
 use cursor_rules::FieldCursor;
 use field::FieldDef;
-use limits::refusal;
-use limits::refusal::Refusal;
-
-// What an answer is put into.
-pub type Out = [u8; 16384];
+use limits::refusal::{Failure, Refusal};
+use std::fmt;
 
 #[derive(Clone, Copy)]
-pub enum Answer {
-    // One of the words below.
-    Word(usize),
-    Refused(Refusal),
+pub enum Value {
+    Fine,
+    Same,
+    Different,
+    Compiled,
+    Dynamic,
+    Unplanned,
     Size(usize),
     Pair(usize, usize),
     Sum(u64),
@@ -22,88 +21,84 @@ pub enum Answer {
     State(FieldCursor),
 }
 
-pub const MALFORMED: usize = 0;
-
-pub const FINE: usize = 1;
-
-pub const NONE: usize = 2;
-
-pub const SAME: usize = 3;
-
-pub const DIFFERENT: usize = 4;
-
-pub const COMPILED: usize = 5;
-
-pub const DYNAMIC: usize = 6;
-
-pub const UNPLANNED: usize = 7;
-
-// No word: the bytes that the call has made are put.
-pub const BYTES: usize = 8;
-
-fn put_marked(out: &mut Out, mark: u8, n: usize) -> usize {
-    let end = put::byte(out, 0, mark);
-    put::number(out, end, n)
+// Why there is no value.
+#[derive(Clone, Copy)]
+pub enum Unanswered {
+    Malformed,
+    Nothing,
+    Refused(Refusal),
 }
 
-// Numbers, a blank behind each.
-fn put_numbers(out: &mut Out, numbers: &[usize]) -> usize {
-    let mut end = 0;
-    let mut i = 0;
-    while i < numbers.len() {
-        let blank = put::number(out, end, numbers[i]);
-        end = put::byte(out, blank, b' ');
-        i += 1;
+pub type Answer = Result<Value, Unanswered>;
+
+impl From<Refusal> for Unanswered {
+    fn from(refusal: Refusal) -> Self {
+        Unanswered::Refused(refusal)
     }
-    end
 }
 
-fn put_field(out: &mut Out, f: FieldDef) -> usize {
-    let numbers = [
-        f.field_id as usize,
-        f.offset as usize,
-        f.size as usize,
-        f.type_id as usize,
-        f.flags as usize,
-        f.def_index as usize,
-    ];
-    let end = put_numbers(out, &numbers);
-    let scale = put::signed(out, end, f.scale);
-    put::next(out, scale, f.reserved)
+impl From<Failure> for Unanswered {
+    fn from(failure: Failure) -> Self {
+        match failure {
+            Failure::NoRecord => Unanswered::Nothing,
+            Failure::Refused(refusal) => Unanswered::Refused(refusal),
+        }
+    }
 }
 
-// Bytes behind a blank.
-pub fn put_bytes(out: &mut Out, end: usize, bytes: &[u8]) -> usize {
-    let blank = put::byte(out, end, b' ');
-    put::octets(out, blank, bytes)
+impl fmt::Display for Unanswered {
+    fn fmt<W: fmt::Write>(&self, f: &mut fmt::Formatter<W>) -> fmt::Result {
+        match self {
+            Unanswered::Malformed => f.write_str("?"),
+            Unanswered::Nothing => f.write_str("none"),
+            Unanswered::Refused(refusal) => write!(f, "r{}", u8::from(*refusal)),
+        }
+    }
 }
 
-// Puts the answer at the start of out, and tells where it ends.
-pub fn put(out: &mut Out, a: Answer) -> usize {
-    match a {
-        Answer::Word(k) => {
-            let words = b"?\tok\tnone\tsame\tdifferent\tcompiled\tdynamic\tunplanned";
-            put::text(out, 0, caseline::word(words, k))
-        }
-        Answer::Refused(r) => put_marked(out, b'r', refusal::number(r) as usize),
-        Answer::Size(n) => put_marked(out, b'=', n),
-        Answer::Pair(x, y) => {
-            let end = put::number(out, 0, x);
-            put::next(out, end, y)
-        }
-        Answer::Sum(sum) => put::hex(out, 0, sum),
-        Answer::Counted(sum, n) => {
-            let end = put::hex(out, 0, sum);
-            put::next(out, end, n)
-        }
-        Answer::Field(f) => put_field(out, f),
-        // How many fields there are, the cursor, and the base, once it is noted.
-        Answer::State(c) => {
-            let end = put_numbers(out, &[c.count, c.cursor]);
-            if c.based {
-                return put::number(out, end, c.base);
-            }
-            put::byte(out, end, b'-')
+// The numbers of a field, in the order of its bytes.
+fn write_field<W: fmt::Write>(f: &mut fmt::Formatter<W>, def: FieldDef) -> fmt::Result {
+    let FieldDef {
+        field_id,
+        offset,
+        size,
+        type_id,
+        flags,
+        def_index,
+        scale,
+        reserved,
+    } = def;
+    write!(
+        f,
+        "{field_id} {offset} {size} {type_id} {flags} {def_index} {scale} {reserved}"
+    )
+}
+
+// How many fields there are, the cursor, and the base, once it is noted.
+fn write_state<W: fmt::Write>(f: &mut fmt::Formatter<W>, state: FieldCursor) -> fmt::Result {
+    write!(f, "{} {} ", state.count, state.cursor)?;
+    if state.based {
+        write!(f, "{}", state.base)
+    } else {
+        f.write_str("-")
+    }
+}
+
+impl fmt::Display for Value {
+    fn fmt<W: fmt::Write>(&self, f: &mut fmt::Formatter<W>) -> fmt::Result {
+        match self {
+            Value::Fine => f.write_str("ok"),
+            Value::Same => f.write_str("same"),
+            Value::Different => f.write_str("different"),
+            Value::Compiled => f.write_str("compiled"),
+            Value::Dynamic => f.write_str("dynamic"),
+            Value::Unplanned => f.write_str("unplanned"),
+            Value::Size(n) => write!(f, "={n}"),
+            Value::Pair(x, y) => write!(f, "{x} {y}"),
+            Value::Sum(sum) => write!(f, "{sum:016x}"),
+            Value::Counted(sum, n) => write!(f, "{sum:016x} {n}"),
+            Value::Field(def) => write_field(f, *def),
+            Value::State(state) => write_state(f, *state),
         }
     }
 }

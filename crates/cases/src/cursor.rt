@@ -1,60 +1,181 @@
 // The words of the field cursor.
-use crate::answer::Out;
-use crate::kept::{Kept, Made, Slots};
-use crate::{answer, given, kept, words};
-use cursor_rules::{FieldCursor, Placed, Times};
+use crate::answer::{Answer, Unanswered, Value};
+use crate::given;
+use crate::given::{Bytes, Line};
+use crate::layouts::Last;
+use crate::words::HEX_SIZE;
+use caseline::put::Hex;
+use cursor_rules::{FieldCursor, Times};
+use field::FieldDef;
+use limits::refusal::Refusal;
 use tuppenceowl::building;
 
-// A field, of whose 16 bytes each call takes what it needs; the size tells how many stand in an array.
-fn place(
-    k: usize,
-    kept: &Kept,
-    cat: &[u8],
-    c: FieldCursor,
-    rows: &mut Made,
-    slots: &mut Slots,
-) -> Placed {
-    let def = field::field_at(given::bytes(kept, 1), 0);
-    let name = given::bytes(kept, 2);
-    let id = def.field_id;
-    let kind = def.type_id;
-    let size = def.size;
-    let flags = def.flags;
-    let index = def.def_index;
-    match k {
-        words::SCALAR => building::scalar(cat, rows, slots, c, id, kind, size, flags, index, name),
-        words::STRING => building::string(cat, rows, slots, c, id, kind, size, flags, name),
-        words::LIKE => building::like(cat, rows, slots, c, def, index, name),
-        _ => {
-            let l = kept::layout(kept);
-            let times = if k == words::NESTED {
-                Times::One
-            } else {
-                Times::Array(size)
-            };
-            building::nested(cat, l, rows, slots, c, id, index, times, name)
+const ROWS_SIZE: usize = field::SIZE * limits::MAX_FIELDS;
+
+const NAMES_SIZE: usize = layout::block::NAME * limits::MAX_FIELDS;
+
+// The fields of a record that is built, and their names.
+#[derive(Drop)]
+pub struct Built {
+    cursor: FieldCursor,
+    rows: [u8; ROWS_SIZE],
+    names: [u8; NAMES_SIZE],
+}
+
+// A field that a line gives: of its 16 bytes each call takes what it needs.
+#[derive(Drop)]
+struct Given {
+    def: FieldDef,
+    name: Bytes<HEX_SIZE>,
+}
+
+impl Given {
+    fn of(line: Line) -> Self {
+        let bytes = line.bytes::<{ field::SIZE }>(1);
+        Given {
+            def: field::field_at(bytes.as_slice(), 0),
+            name: line.bytes(2),
         }
     }
 }
 
-pub fn call(k: usize, kept: &Kept, rows: &mut Made, slots: &mut Slots) -> Placed {
-    let cat = kept::catalogue(kept);
-    let c = kept::cursor(kept);
-    match k {
-        words::AT => building::at(cat, rows, slots, c, given::number(kept, 1)),
-        words::FINISH_BASE => building::finish_base(cat, rows, slots, c),
-        words::FINISH => {
-            let mut ids = [0u16; 64];
-            let n = given::ids(given::bytes(kept, 1), &mut ids);
-            building::finish(cat, rows, slots, c, &ids[0..n])
+impl Built {
+    // Before a line begins it, a cursor has no room.
+    pub fn new() -> Self {
+        Built {
+            cursor: FieldCursor {
+                most: 0,
+                count: 0,
+                cursor: 0,
+                base: 0,
+                based: false,
+            },
+            rows: [0; ROWS_SIZE],
+            names: [0; NAMES_SIZE],
         }
-        _ => place(k, kept, cat, c, rows, slots),
     }
-}
 
-// Behind the state the bytes of the first fields and names, of which some may not be placed yet.
-pub fn put_built(out: &mut Out, end: usize, kept: &Kept, made: &Made, slots: &Slots) -> usize {
-    let k = given::number(kept, 1) % (limits::MAX_FIELDS + 1);
-    let table = answer::put_bytes(out, end, lent::part(made, 0, field::SIZE * k));
-    answer::put_bytes(out, table, lent::part(slots, 0, layout::block::NAME * k))
+    pub fn begin(&mut self, line: Line) -> Answer {
+        let holder = line.holder(1).ok_or(Unanswered::Malformed)?;
+        self.cursor = building::empty(holder);
+        Ok(Value::Fine)
+    }
+
+    pub fn state(&self) -> Answer {
+        Ok(Value::State(self.cursor))
+    }
+
+    // The bytes of the first fields and names, of which some may not be placed yet.
+    pub fn rows(&self, fields: usize) -> Hex<'_> {
+        Hex(lent::part(&self.rows, 0, field::SIZE * fields.min(limits::MAX_FIELDS)))
+    }
+
+    pub fn names(&self, fields: usize) -> Hex<'_> {
+        Hex(lent::part(
+            &self.names,
+            0,
+            layout::block::NAME * fields.min(limits::MAX_FIELDS),
+        ))
+    }
+
+    // The state that a call leaves.
+    fn moved(&mut self, placed: Result<FieldCursor, Refusal>) -> Answer {
+        let cursor = placed?;
+        self.cursor = cursor;
+        Ok(Value::State(cursor))
+    }
+
+    pub fn scalar(&mut self, line: Line, last: &Last) -> Answer {
+        let Given { def, name } = Given::of(line);
+        let placed = building::scalar(
+            last.catalogue(),
+            &mut self.rows,
+            &mut self.names,
+            self.cursor,
+            def.field_id,
+            def.type_id,
+            def.size,
+            def.flags,
+            def.def_index,
+            name.as_slice(),
+        );
+        self.moved(placed)
+    }
+
+    pub fn string(&mut self, line: Line, last: &Last) -> Answer {
+        let Given { def, name } = Given::of(line);
+        let placed = building::string(
+            last.catalogue(),
+            &mut self.rows,
+            &mut self.names,
+            self.cursor,
+            def.field_id,
+            def.type_id,
+            def.size,
+            def.flags,
+            name.as_slice(),
+        );
+        self.moved(placed)
+    }
+
+    pub fn like(&mut self, line: Line, last: &Last) -> Answer {
+        let Given { def, name } = Given::of(line);
+        let placed = building::like(
+            last.catalogue(),
+            &mut self.rows,
+            &mut self.names,
+            self.cursor,
+            def,
+            def.def_index,
+            name.as_slice(),
+        );
+        self.moved(placed)
+    }
+
+    fn nest(&mut self, given: &Given, last: &Last, times: Times) -> Answer {
+        let placed = building::nested(
+            last.catalogue(),
+            last.layout(),
+            &mut self.rows,
+            &mut self.names,
+            self.cursor,
+            given.def.field_id,
+            given.def.def_index,
+            times,
+            given.name.as_slice(),
+        );
+        self.moved(placed)
+    }
+
+    pub fn nested(&mut self, line: Line, last: &Last) -> Answer {
+        self.nest(&Given::of(line), last, Times::One)
+    }
+
+    // The size tells how often the struct stands in the array.
+    pub fn nested_array(&mut self, line: Line, last: &Last) -> Answer {
+        let given = Given::of(line);
+        self.nest(&given, last, Times::Array(given.def.size))
+    }
+
+    pub fn at(&mut self, line: Line, last: &Last) -> Answer {
+        let offset = line.number(1);
+        let cat = last.catalogue();
+        let placed = building::at(cat, &mut self.rows, &mut self.names, self.cursor, offset);
+        self.moved(placed)
+    }
+
+    pub fn finish_base(&mut self, last: &Last) -> Answer {
+        let cat = last.catalogue();
+        let placed = building::finish_base(cat, &mut self.rows, &mut self.names, self.cursor);
+        self.moved(placed)
+    }
+
+    pub fn finish(&mut self, line: Line, last: &Last) -> Answer {
+        let bytes = line.bytes::<HEX_SIZE>(1);
+        let mut room = [0; given::MOST_IDS];
+        let ids = given::ids(bytes.as_slice(), &mut room);
+        let cat = last.catalogue();
+        let placed = building::finish(cat, &mut self.rows, &mut self.names, self.cursor, ids);
+        self.moved(placed)
+    }
 }

@@ -1,59 +1,87 @@
-// What the line gives, word by word, once its shape is known to be right.
+// What a line gives, word by word, once its shape is known to be right.
 ghost use Rattle.std.specs.Prelude.{◌≤◌, length};
 
-use crate::kept;
-use crate::kept::Kept;
-use caseline::Parsed;
+use field::Holder;
 
-pub fn word(kept: &Kept, k: usize) -> &[u8] {
-    caseline::word(kept::line(kept), k)
+// The bytes of a word in hex.
+#[derive(Clone, Copy)]
+pub struct Bytes<const N: usize> {
+    room: [u8; N],
+    length: usize,
+    ghost inside: { length ≤ N },
 }
 
-pub fn bytes(kept: &Kept, k: usize) -> &[u8] {
-    let line = kept::line(kept);
-    lent::part(
-        kept,
-        caseline::start(line, k) / 2,
-        caseline::word(line, k).len() / 2,
-    )
-}
+impl<const N: usize> Bytes<N> {
+    // None where there are more than N, or the word is not in hex.
+    pub fn of(word: &[u8]) -> Self {
+        let mut room = [0; N];
+        let length = caseline::hex(word, &mut room).unwrap_or(0);
+        Bytes { room, length }
+    }
 
-pub fn number(kept: &Kept, k: usize) -> usize {
-    match caseline::number(word(kept, k)) {
-        Parsed::Is(n) => n,
-        Parsed::Malformed => 0,
+    pub fn as_slice(&self) -> &[u8]
+        ensures { length result.now ≤ N }
+    {
+        &self.room[..self.length]
     }
 }
 
-// A number of two bytes.
-pub fn short(kept: &Kept, k: usize) -> u16 {
-    (number(kept, k) % 65536) as u16
+#[derive(Clone, Copy)]
+pub struct Line<'a> {
+    pub text: &'a [u8],
 }
 
-// Copies bytes to a place where they fit, and tells whether they do.
-pub fn copied(d: &mut [u8], at: usize, s: &[u8]) -> bool {
-    let n = s.len();
-    if d.len() < n {
-        return false;
+impl<'a> Line<'a> {
+    pub fn word(self, k: usize) -> &'a [u8] {
+        caseline::word(self.text, k)
     }
-    if d.len() - n < at {
-        return false;
-    }
-    lent::store::copy(s, 0, d, at, n);
-    true
-}
 
-// The ids of two bytes each: as many as the bytes have, and as there is room for.
-pub fn ids(bytes: &[u8], ids: &mut [u16]) -> usize
-    ensures { result ≤ length ids.old }
-{
-    let mut n = 0;
-    while n < ids.len() {
-        if bytes.len() / 2 <= n {
-            return n;
+    pub fn bytes<const N: usize>(self, k: usize) -> Bytes<N> {
+        Bytes::of(self.word(k))
+    }
+
+    pub fn number(self, k: usize) -> usize {
+        caseline::number(self.word(k)).unwrap_or(0)
+    }
+
+    // A number of two bytes.
+    pub fn short(self, k: usize) -> u16 {
+        u16::try_from(self.number(k)).unwrap_or(0)
+    }
+
+    // None is wanted where a dash stands.
+    pub fn schema(self, k: usize) -> Option<u16> {
+        match self.word(k) {
+            b"-" => None,
+            _ => Some(self.short(k)),
         }
-        ids[n] = lent::join(lent::byte_at(bytes, 2 * n), lent::byte_at(bytes, 2 * n + 1));
-        n += 1;
     }
-    n
+
+    // What a cursor may begin.
+    pub fn holder(self, k: usize) -> Option<Holder> {
+        match self.word(k) {
+            b"record" => Some(Holder::Record),
+            b"struct" => Some(Holder::Struct),
+            _ => None,
+        }
+    }
+}
+
+// The most ids that a call is given.
+pub const MOST_IDS: usize = 64;
+
+// Puts the ids of two bytes each at the start: as many as the bytes have, and as there is room for.
+pub fn ids<'a>(bytes: &[u8], room: &'a mut [u16]) -> &'a [u16] {
+    let n = room.len().min(bytes.len() / 2);
+    for (id, pair) in room.iter_mut().zip(bytes.chunks_exact(2)) {
+        *id = u16::from_le_bytes([pair[0], pair[1]]);
+    }
+    &room[..n]
+}
+
+// Copies bytes to a place where they fit.
+pub fn store(bytes: &[u8], room: &mut [u8], at: usize) -> Option<()> {
+    let end = at.checked_add(bytes.len())?;
+    room.get_mut(at..end)?.copy_from_slice(bytes);
+    Some(())
 }

@@ -1,40 +1,58 @@
 // The words that ask for admission, a record's size, a window and a field of a table.
-use crate::answer::Answer;
-use crate::kept::Kept;
-use crate::{answer, given, kept, words};
-use tuppenceowl::{Admitted, Found, Sized, Windowed};
+use crate::answer::{Answer, Unanswered, Value};
+use crate::given::{Bytes, Line};
+use crate::words::{CATALOGUE_SIZE, HEX_SIZE};
 
-pub fn found(f: Found) -> Answer {
-    match f {
-        Found::Field(def) => Answer::Field(def),
-        Found::NoField => Answer::Word(answer::NONE),
-        Found::Refused(r) => Answer::Refused(r),
+// The last catalogue and the last layout of the lines.
+#[derive(Drop)]
+pub struct Last {
+    catalogue: Bytes<CATALOGUE_SIZE>,
+    layout: Bytes<HEX_SIZE>,
+}
+
+impl Last {
+    pub fn new() -> Self {
+        Last {
+            catalogue: Bytes::of(b""),
+            layout: Bytes::of(b""),
+        }
+    }
+
+    pub fn catalogue(&self) -> &[u8] {
+        self.catalogue.as_slice()
+    }
+
+    pub fn layout(&self) -> &[u8] {
+        self.layout.as_slice()
+    }
+
+    pub fn keep_catalogue(&mut self, line: Line) -> Answer {
+        self.catalogue = line.bytes(1);
+        tuppenceowl::check_catalogue(self.catalogue())?;
+        Ok(Value::Fine)
+    }
+
+    pub fn keep_layout(&mut self, line: Line) -> Answer {
+        self.layout = line.bytes(1);
+        tuppenceowl::admit(self.catalogue(), self.layout())?;
+        Ok(Value::Fine)
     }
 }
 
-pub fn asked(k: usize, kept: &Kept) -> Answer {
-    let cat = kept::catalogue(kept);
-    let l = kept::layout(kept);
-    let bytes = given::bytes(kept, 1);
-    let second = given::number(kept, 2);
-    match k {
-        words::CATALOGUE => match tuppenceowl::check_catalogue(cat) {
-            Admitted::Fine => Answer::Word(answer::FINE),
-            Admitted::Refused(r) => Answer::Refused(r),
-        },
-        words::LAYOUT => match tuppenceowl::admit(cat, l) {
-            Admitted::Fine => Answer::Word(answer::FINE),
-            Admitted::Refused(r) => Answer::Refused(r),
-        },
-        words::SIZE => match tuppenceowl::record_size(cat, l, given::number(kept, 1)) {
-            Sized::Bytes(n) => Answer::Size(n),
-            Sized::NoRecord => Answer::Word(answer::NONE),
-            Sized::Refused(r) => Answer::Refused(r),
-        },
-        words::WINDOW => match tuppenceowl::window(bytes, second, given::number(kept, 3)) {
-            Windowed::Within(start, end) => Answer::Pair(start, end),
-            Windowed::Past => Answer::Word(answer::NONE),
-        },
-        _ => found(tuppenceowl::field_of(bytes, second)),
-    }
+pub fn size(line: Line, last: &Last) -> Answer {
+    let size = tuppenceowl::record_size(last.catalogue(), last.layout(), line.number(1))?;
+    Ok(Value::Size(size))
+}
+
+pub fn window(line: Line) -> Answer {
+    let bytes = line.bytes::<HEX_SIZE>(1);
+    let window = tuppenceowl::window(bytes.as_slice(), line.number(2), line.number(3));
+    let (start, end) = window.ok_or(Unanswered::Nothing)?;
+    Ok(Value::Pair(start, end))
+}
+
+pub fn field(line: Line) -> Answer {
+    let table = line.bytes::<HEX_SIZE>(1);
+    let found = tuppenceowl::field_of(table.as_slice(), line.number(2))?;
+    Ok(Value::Field(found.ok_or(Unanswered::Nothing)?))
 }

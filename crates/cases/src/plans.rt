@@ -1,67 +1,60 @@
 // The planner, whose plan goes into the slots, and bytes that are put there.
-ghost use Rattle.std.specs.Prelude.{◌≡◌, length};
-
-use crate::answer::{Answer, Out};
-use crate::kept::{Kept, Made};
-use crate::{answer, given, kept, words};
-use caseline::put;
-use tuppenceowl::planning::Planned;
+use crate::answer::{Answer, Unanswered, Value};
+use crate::given;
+use crate::given::Line;
+use crate::layouts::Last;
+use crate::words::{BODY_SIZE, HEX_SIZE, MARKS_SIZE};
+use caseline::put::Hex;
+use std::fmt;
 use tuppenceowl::{hashing, planning};
 
-fn plan(kept: &Kept, room: &mut [u8]) -> Answer {
-    let cat = kept::catalogue(kept);
-    let l = kept::layout(kept);
-    let k = given::number(kept, 1);
-    let to = given::number(kept, 2);
-    let header = given::number(kept, 3);
-    let body = given::bytes(kept, 4);
-    let marks = given::bytes(kept, 5);
-    let target = given::bytes(kept, 8);
-    match planning::plan(cat, l, k, target, to, header, body, marks, room) {
-        Planned::Made => Answer::Word(answer::BYTES),
-        Planned::NoRecord => Answer::Word(answer::NONE),
-        Planned::Refused(r) => Answer::Refused(r),
-    }
+// Room for four plans.
+pub const PLANS_SIZE: usize = 24640;
+
+pub type Plans = [u8; PLANS_SIZE];
+
+pub fn put(line: Line, plans: &mut Plans) -> Answer {
+    let bytes = line.bytes::<HEX_SIZE>(2);
+    given::store(bytes.as_slice(), plans, line.number(1)).ok_or(Unanswered::Malformed)?;
+    Ok(Value::Fine)
 }
 
-pub fn asked(k: usize, kept: &Kept, made: &mut [u8]) -> Answer
-    requires { length made.old ≡ 26688 }
-{
-    if k == words::PUT {
-        let at = given::number(kept, 1);
-        if at <= kept::PLANS_SIZE {
-            if given::copied(made, kept::ROWS_SIZE + at, given::bytes(kept, 2)) {
-                return Answer::Word(answer::FINE);
-            }
-        }
-        return Answer::Word(answer::MALFORMED);
+pub fn plan(line: Line, last: &Last, plans: &mut Plans) -> Answer {
+    let at = line.number(6);
+    let room = line.number(7);
+    if room > PLANS_SIZE || at > PLANS_SIZE - room {
+        return Err(Unanswered::Malformed);
     }
-    let at = given::number(kept, 6);
-    let room = given::number(kept, 7);
-    if kept::PLANS_SIZE < room {
-        return Answer::Word(answer::MALFORMED);
-    }
-    if kept::PLANS_SIZE - room < at {
-        return Answer::Word(answer::MALFORMED);
-    }
-    let from = kept::ROWS_SIZE + at;
-    plan(kept, &mut made[from..from + room])
+    let body = line.bytes::<BODY_SIZE>(4);
+    let marks = line.bytes::<MARKS_SIZE>(5);
+    let target = line.bytes::<HEX_SIZE>(8);
+    planning::plan(
+        last.catalogue(),
+        last.layout(),
+        line.number(1),
+        target.as_slice(),
+        line.number(2),
+        line.number(3),
+        body.as_slice(),
+        marks.as_slice(),
+        &mut plans[at..at + room],
+    )?;
+    Ok(Value::Fine)
 }
 
-// The plan, where one is made and nothing else is put: the numbers and the steps, the body, and the sum of all bytes that
-// were lent.
-pub fn put_plan(out: &mut Out, end: usize, kept: &Kept, made: &Made) -> usize {
-    if end != 0 {
-        return end;
+// A plan in its slot.
+#[derive(Clone, Copy)]
+pub struct Slot<'a>(pub &'a [u8]);
+
+// The numbers and the steps, the body, and the sum of all bytes that were lent.
+impl fmt::Display for Slot<'_> {
+    fn fmt<W: fmt::Write>(&self, f: &mut fmt::Formatter<W>) -> fmt::Result {
+        let steps = lent::u16_at(self.0, 12) as usize;
+        let header = lent::u16_at(self.0, 6) as usize;
+        let size = lent::u16_at(self.0, 10) as usize;
+        let front = Hex(lent::part(self.0, 0, 16 + 16 * steps));
+        let body = Hex(lent::part(self.0, slot::BODY_FROM, size.saturating_sub(header)));
+        let sum = hashing::sum(self.0);
+        write!(f, "{front} {body} {sum:016x}")
     }
-    let plans = lent::part(made, kept::ROWS_SIZE, kept::PLANS_SIZE);
-    let slot = lent::part(plans, given::number(kept, 6), given::number(kept, 7));
-    let steps = lent::u16_at(slot, 12) as usize;
-    let header = lent::u16_at(slot, 6) as usize;
-    let size = lent::u16_at(slot, 10) as usize;
-    let front = put::octets(out, 0, lent::part(slot, 0, 16 + 16 * steps));
-    let body = if header <= size { size - header } else { 0 };
-    let whole = answer::put_bytes(out, front, lent::part(slot, 2064, body));
-    let next = put::byte(out, whole, b' ');
-    put::hex(out, next, hashing::sum(slot))
 }

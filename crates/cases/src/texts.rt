@@ -1,48 +1,43 @@
 // The words that write a plan as text and read a text. What is left in the lent bytes is told by its length and its sum.
-use crate::answer::Answer;
-use crate::kept::Kept;
-use crate::{answer, given};
-use plan_read::reader::ReadPlan;
-use plan_text::writer::Written;
+use crate::answer::{Answer, Unanswered, Value};
+use crate::given;
+use crate::given::Line;
+use crate::words::{HEX_SIZE, ROOM_SIZE, STEPS_SIZE};
 use tuppenceowl::{hashing, texting};
 
 // What stands in lent bytes before a call.
 const FOUND: u8 = 170;
 
-const MOST_ROOM: usize = 16384;
-
-type Room = [u8; MOST_ROOM];
-
-// The sum of the bytes that were lent.
-fn sum(room: &Room, n: usize) -> u64 {
-    hashing::sum(lent::part(room, 0, n))
-}
-
 // A slot: zeros, with what is given for its head and steps, and for its body.
-pub fn write_plan(kept: &Kept) -> Answer {
-    let mut plan = [0u8; 32768];
-    given::copied(&mut plan, 0, given::bytes(kept, 3));
-    given::copied(&mut plan, slot::BODY_FROM, given::bytes(kept, 4));
-    let mut text = [FOUND; MOST_ROOM];
-    let room = given::number(kept, 1);
-    if MOST_ROOM < room {
-        return Answer::Word(answer::MALFORMED);
-    }
-    let found = lent::part(&plan, 0, given::number(kept, 2));
-    match texting::write_plan(found, &mut text[0..room]) {
-        Written::Length(n) => Answer::Counted(sum(&text, room), n),
-        Written::Refused(r) => Answer::Refused(r),
-    }
+fn fill(line: Line, plan: &mut [u8]) -> Option<()> {
+    given::store(line.bytes::<HEX_SIZE>(3).as_slice(), plan, 0)?;
+    given::store(
+        line.bytes::<STEPS_SIZE>(4).as_slice(),
+        plan,
+        slot::BODY_FROM,
+    )
 }
 
-pub fn read_plan(kept: &Kept) -> Answer {
-    let mut plan = [FOUND; MOST_ROOM];
-    let room = given::number(kept, 1);
-    if MOST_ROOM < room {
-        return Answer::Word(answer::MALFORMED);
-    }
-    match texting::read_plan(given::bytes(kept, 2), &mut plan[0..room]) {
-        ReadPlan::Read => Answer::Counted(sum(&plan, room), slot::SIZE),
-        ReadPlan::Refused(r) => Answer::Refused(r),
-    }
+fn written(plan: &[u8], text: &mut [u8]) -> Answer {
+    let length = texting::write_plan(plan, text)?;
+    Ok(Value::Counted(hashing::sum(text), length))
+}
+
+fn read(text: &[u8], plan: &mut [u8]) -> Answer {
+    texting::read_plan(text, plan)?;
+    Ok(Value::Counted(hashing::sum(plan), slot::SIZE))
+}
+
+pub fn write_plan(line: Line) -> Answer {
+    let mut plan = [0; HEX_SIZE];
+    fill(line, &mut plan).ok_or(Unanswered::Malformed)?;
+    let mut text = [FOUND; ROOM_SIZE];
+    let room = line.number(1).min(ROOM_SIZE);
+    written(lent::part(&plan, 0, line.number(2)), &mut text[..room])
+}
+
+pub fn read_plan(line: Line) -> Answer {
+    let mut plan = [FOUND; ROOM_SIZE];
+    let room = line.number(1).min(ROOM_SIZE);
+    read(line.bytes::<HEX_SIZE>(2).as_slice(), &mut plan[..room])
 }

@@ -1,51 +1,46 @@
 // The interpreter and the dispatch. The target's bytes stand in the line, and as they are then in the answer.
-ghost use Rattle.std.specs.Prelude.{◌≤◌, length};
-
-use crate::answer::{Answer, Out};
-use crate::kept::{Kept, Slots};
-use crate::{answer, given, kept, words};
-use dispatch::Upgraded;
+use crate::answer::{Answer, Value};
+use crate::given;
+use crate::given::Line;
+use crate::plans::Plans;
+use crate::words::{HEX_SIZE, TARGET_SIZE};
 use tuppenceowl::upgrading;
 
-fn upgraded(k: usize, kept: &Kept, plans: &[u8], target: &mut [u8]) -> Upgraded {
-    if k == words::APPLY {
-        let slot = lent::part(plans, given::number(kept, 1), given::number(kept, 2));
-        return upgrading::apply(slot, given::bytes(kept, 3), given::number(kept, 4), target);
-    }
-    let slots = lent::part(plans, 0, given::number(kept, 1));
-    let mut ids = [0u16; 64];
-    let n = given::ids(given::bytes(kept, 2), &mut ids);
-    let rtype = given::short(kept, 3);
-    let from = given::number(kept, 4);
-    let to = given::number(kept, 5);
-    let record = given::bytes(kept, 6);
-    let stated = given::number(kept, 7);
-    upgrading::upgrade(slots, &ids[0..n], rtype, from, to, record, stated, target)
+pub type Target = [u8; TARGET_SIZE];
+
+// The first bytes of the target, as word k gives them.
+fn set<'a>(target: &'a mut Target, line: Line, k: usize) -> &'a mut [u8] {
+    let given = line.bytes::<TARGET_SIZE>(k);
+    let given = given.as_slice();
+    let n = given.len();
+    target[..n].copy_from_slice(given);
+    &mut target[..n]
 }
 
-// The last word of the line.
-fn target(k: usize, kept: &Kept) -> &[u8] {
-    given::bytes(kept, if k == words::APPLY { 5 } else { 8 })
+pub fn apply(line: Line, plans: &Plans, target: &mut Target) -> Answer {
+    let slot = lent::part(plans, line.number(1), line.number(2));
+    let record = line.bytes::<HEX_SIZE>(3);
+    let target = set(target, line, 5);
+    let upgraded = upgrading::apply(slot, record.as_slice(), line.number(4), target)?;
+    Ok(Value::Pair(upgraded.rtype as usize, upgraded.size))
 }
 
-// With a target of the length that the line gives it.
-pub fn asked(k: usize, kept: &Kept, plans: &[u8], slots: &mut [u8]) -> Answer
-    requires { 9344 ≤ length slots.old }
-{
-    let s = target(k, kept);
-    if kept::TARGET_SIZE < s.len() {
-        return Answer::Word(answer::MALFORMED);
-    }
-    let end = kept::NAMES_SIZE + s.len();
-    lent::store::copy(s, 0, slots, kept::NAMES_SIZE, s.len());
-    match upgraded(k, kept, plans, &mut slots[kept::NAMES_SIZE..end]) {
-        Upgraded::Done(rtype, size) => Answer::Pair(rtype as usize, size),
-        Upgraded::Refused(r) => Answer::Refused(r),
-    }
-}
-
-// The target behind the answer.
-pub fn put_target(out: &mut Out, end: usize, k: usize, kept: &Kept, slots: &Slots) -> usize {
-    let n = target(k, kept).len();
-    answer::put_bytes(out, end, lent::part(slots, kept::NAMES_SIZE, n))
+pub fn upgrade(line: Line, plans: &Plans, target: &mut Target) -> Answer {
+    let slots = lent::part(plans, 0, line.number(1));
+    let listed = line.bytes::<HEX_SIZE>(2);
+    let mut room = [0; given::MOST_IDS];
+    let ids = given::ids(listed.as_slice(), &mut room);
+    let record = line.bytes::<HEX_SIZE>(6);
+    let target = set(target, line, 8);
+    let upgraded = upgrading::upgrade(
+        slots,
+        ids,
+        line.short(3),
+        line.number(4),
+        line.number(5),
+        record.as_slice(),
+        line.number(7),
+        target,
+    )?;
+    Ok(Value::Pair(upgraded.rtype as usize, upgraded.size))
 }

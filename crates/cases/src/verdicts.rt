@@ -1,54 +1,55 @@
 // The words that ask for verdicts, fields and selection. The other layout stands in the line.
-use crate::answer::Answer;
-use crate::kept::Kept;
-use crate::{answer, given, kept, layouts, words};
+use crate::answer::{Answer, Unanswered, Value};
+use crate::given::Line;
+use crate::layouts::Last;
+use crate::words::HEX_SIZE;
 use compare::answer::Verdict;
-use tuppenceowl::comparing::Judged;
-use tuppenceowl::planning::Selected;
 use tuppenceowl::{comparing, planning};
 
-fn judged(j: Judged) -> Answer {
-    match j {
-        Judged::Is(v) => match v {
-            Verdict::Compiled => Answer::Word(answer::COMPILED),
-            Verdict::Dynamic => Answer::Word(answer::DYNAMIC),
-        },
-        Judged::NoRecord => Answer::Word(answer::NONE),
-        Judged::Refused(r) => Answer::Refused(r),
+impl From<Verdict> for Value {
+    fn from(verdict: Verdict) -> Self {
+        match verdict {
+            Verdict::Compiled => Value::Compiled,
+            Verdict::Dynamic => Value::Dynamic,
+        }
     }
 }
 
-// No schema is wanted where a dash stands.
-fn select(kept: &Kept, cat: &[u8], l: &[u8]) -> Answer {
-    let record = given::number(kept, 1);
-    let wanted = lent::byte_at(given::word(kept, 2), 0) != b'-';
-    let schema = given::short(kept, 2);
-    let target = given::bytes(kept, 3);
-    match planning::select(cat, l, record, target, wanted, schema) {
-        Selected::Record(k) => Answer::Size(k),
-        Selected::Unplanned => Answer::Word(answer::UNPLANNED),
-        Selected::NoRecord => Answer::Word(answer::NONE),
-        Selected::Refused(r) => Answer::Refused(r),
-    }
+pub fn verdict(line: Line, last: &Last) -> Answer {
+    let cat = last.catalogue();
+    let compiled = line.bytes::<HEX_SIZE>(2);
+    let verdict = comparing::verdict(cat, last.layout(), line.number(1), compiled.as_slice())?;
+    Ok(Value::from(verdict))
 }
 
-pub fn asked(k: usize, kept: &Kept) -> Answer {
-    let cat = kept::catalogue(kept);
-    let l = kept::layout(kept);
-    if k == words::SELECT {
-        return select(kept, cat, l);
-    }
-    let second = given::bytes(kept, 2);
-    let rtype = given::short(kept, 1);
-    match k {
-        words::VERDICT => judged(comparing::verdict(cat, l, given::number(kept, 1), second)),
-        words::VERDICT_OF => judged(comparing::verdict_of(cat, l, rtype, second)),
-        words::BY_ID => layouts::found(comparing::field_by_id(
-            cat,
-            l,
-            rtype,
-            given::short(kept, 2),
-        )),
-        _ => layouts::found(comparing::field_by_name(cat, l, rtype, second)),
-    }
+pub fn verdict_of(line: Line, last: &Last) -> Answer {
+    let cat = last.catalogue();
+    let compiled = line.bytes::<HEX_SIZE>(2);
+    let verdict = comparing::verdict_of(cat, last.layout(), line.short(1), compiled.as_slice())?;
+    Ok(Value::from(verdict))
+}
+
+pub fn by_id(line: Line, last: &Last) -> Answer {
+    let cat = last.catalogue();
+    let found = comparing::field_by_id(cat, last.layout(), line.short(1), line.short(2))?;
+    Ok(Value::Field(found.ok_or(Unanswered::Nothing)?))
+}
+
+pub fn by_name(line: Line, last: &Last) -> Answer {
+    let cat = last.catalogue();
+    let name = line.bytes::<HEX_SIZE>(2);
+    let found = comparing::field_by_name(cat, last.layout(), line.short(1), name.as_slice())?;
+    Ok(Value::Field(found.ok_or(Unanswered::Nothing)?))
+}
+
+pub fn select(line: Line, last: &Last) -> Answer {
+    let target = line.bytes::<HEX_SIZE>(3);
+    let selected = planning::select(
+        last.catalogue(),
+        last.layout(),
+        line.number(1),
+        target.as_slice(),
+        line.schema(2),
+    )?;
+    Ok(selected.map_or(Value::Unplanned, Value::Size))
 }

@@ -1,181 +1,191 @@
-// The words, each with what has to stand behind it: a letter for each word of the line, as `most` tells.
+// The words, each with what has to stand behind it.
+use crate::given::Line;
 
-pub const SCALAR: usize = 0;
-
-pub const STRING: usize = 1;
-
-pub const LIKE: usize = 2;
-
-pub const NESTED: usize = 3;
-
-pub const NESTED_ARRAY: usize = 4;
-
-pub const AT: usize = 5;
-
-pub const FINISH_BASE: usize = 6;
-
-pub const FINISH: usize = 7;
-
-pub const PLAN: usize = 8;
-
-pub const PUT: usize = 9;
-
-pub const APPLY: usize = 10;
-
-pub const UPGRADE: usize = 11;
-
-pub const CATALOGUE: usize = 12;
-
-pub const LAYOUT: usize = 13;
-
-pub const SIZE: usize = 14;
-
-pub const WINDOW: usize = 15;
-
-pub const FIELD: usize = 16;
-
-pub const SUM: usize = 17;
-
-pub const SLOTS: usize = 18;
-
-pub const HASH: usize = 19;
-
-pub const VISITS: usize = 20;
-
-pub const BOOT: usize = 21;
-
-pub const VERDICT: usize = 22;
-
-pub const VERDICT_OF: usize = 23;
-
-pub const BY_ID: usize = 24;
-
-pub const BY_NAME: usize = 25;
-
-pub const SELECT: usize = 26;
-
-pub const BEGIN: usize = 27;
-
-pub const BUILT: usize = 28;
-
-pub const WRITE_PLAN: usize = 29;
-
-pub const READ_PLAN: usize = 30;
-
-// What is none of them, or has something else behind it, is malformed.
-pub const MALFORMED: usize = 31;
-
-// Which word a line has, by the order above.
-pub fn which(line: &[u8]) -> usize {
-    listed(
-        line,
-        b"scalar RH
-string RH
-like RH
-nested RH
-nested_array RH
-at n
-finish_base
-finish H
-plan nnnBMnnH
-put nH
-apply nnHnT
-upgrade nHsnnHnT
-catalogue C
-layout H
-size n
-window Hnn
-field Hn
-sum H
-slots nn
-hash n
-visits nn
-boot n
-verdict nH
-verdict_of sH
-by_id ss
-by_name sH
-select ndH
-begin k*
-built f*
-write_plan rnHW
-read_plan rH
-",
-    )
+#[derive(Clone, Copy, Debug, PartialEq, Eq)]
+pub enum Word {
+    Scalar,
+    String,
+    Like,
+    Nested,
+    NestedArray,
+    At,
+    FinishBase,
+    Finish,
+    Plan,
+    Put,
+    Apply,
+    Upgrade,
+    Catalogue,
+    Layout,
+    Size,
+    Window,
+    Field,
+    Sum,
+    Slots,
+    Hash,
+    Visits,
+    Boot,
+    Verdict,
+    VerdictOf,
+    ById,
+    ByName,
+    Select,
+    Begin,
+    Built,
+    WritePlan,
+    ReadPlan,
 }
 
-// Which line of the list fits; one more than the last where none does.
-fn listed(line: &[u8], list: &[u8]) -> usize {
-    let mut at = 0;
-    let mut k = 0;
-    while at < list.len() {
-        let end = caseline::find(list, at, b'\n');
-        if fits(line, &list[at..end]) {
-            return k;
+// What a word of a line may be.
+#[derive(Clone, Copy, Debug, PartialEq, Eq)]
+enum Kind {
+    // A number, and its largest.
+    Number(usize),
+    // Bytes in hex, and the most of them.
+    Hex(usize),
+    // A number of two bytes, or a dash.
+    Schema,
+    // What a cursor may begin.
+    Holder,
+    // Any words, or none.
+    Rest,
+}
+
+// The most bytes that a word names: those of most words, of a plan's default body and of its marks, of a plan's steps or
+// body, of a target and of a catalogue.
+pub const HEX_SIZE: usize = 32768;
+
+pub const BODY_SIZE: usize = 4224;
+
+pub const MARKS_SIZE: usize = 256;
+
+pub const STEPS_SIZE: usize = 4096;
+
+pub const TARGET_SIZE: usize = 5120;
+
+pub const CATALOGUE_SIZE: usize = 1024;
+
+// The most room that is lent for a text or a plan.
+pub const ROOM_SIZE: usize = 16384;
+
+const NUMBER: Kind = Kind::Number(999999999);
+
+const MOST_SHORT: usize = 65535;
+
+const SHORT: Kind = Kind::Number(MOST_SHORT);
+
+const HEX: Kind = Kind::Hex(HEX_SIZE);
+
+const FIELD: Kind = Kind::Hex(field::SIZE);
+
+const BODY: Kind = Kind::Hex(BODY_SIZE);
+
+const MARKS: Kind = Kind::Hex(MARKS_SIZE);
+
+const TARGET: Kind = Kind::Hex(TARGET_SIZE);
+
+const ROOM: Kind = Kind::Number(ROOM_SIZE);
+
+fn is_at_most(word: &[u8], most: usize) -> bool {
+    caseline::number(word).is_some_and(|n| n <= most)
+}
+
+impl Kind {
+    fn takes(self, line: Line, k: usize) -> bool {
+        let word = line.word(k);
+        match self {
+            Kind::Number(most) => is_at_most(word, most),
+            Kind::Hex(most) => caseline::is_hex(word) && word.len() / 2 <= most,
+            Kind::Schema => word == b"-".as_slice() || is_at_most(word, MOST_SHORT),
+            Kind::Holder => line.holder(k).is_some(),
+            Kind::Rest => true,
         }
-        if list.len() <= end {
-            return k + 1;
+    }
+}
+
+// Whether these kinds, and nothing else, stand behind the line's first word.
+fn is_shaped(line: Line, kinds: &[Kind]) -> bool {
+    let is_open = kinds.contains(&Kind::Rest);
+    (is_open || caseline::words(line.text) == kinds.len() + 1)
+        && kinds
+            .iter()
+            .enumerate()
+            .all(|(k, kind)| kind.takes(line, k + 1))
+}
+
+impl Word {
+    fn named(name: &[u8]) -> Option<Self> {
+        match name {
+            b"scalar" => Some(Word::Scalar),
+            b"string" => Some(Word::String),
+            b"like" => Some(Word::Like),
+            b"nested" => Some(Word::Nested),
+            b"nested_array" => Some(Word::NestedArray),
+            b"at" => Some(Word::At),
+            b"finish_base" => Some(Word::FinishBase),
+            b"finish" => Some(Word::Finish),
+            b"plan" => Some(Word::Plan),
+            b"put" => Some(Word::Put),
+            b"apply" => Some(Word::Apply),
+            b"upgrade" => Some(Word::Upgrade),
+            b"catalogue" => Some(Word::Catalogue),
+            b"layout" => Some(Word::Layout),
+            b"size" => Some(Word::Size),
+            b"window" => Some(Word::Window),
+            b"field" => Some(Word::Field),
+            b"sum" => Some(Word::Sum),
+            b"slots" => Some(Word::Slots),
+            b"hash" => Some(Word::Hash),
+            b"visits" => Some(Word::Visits),
+            b"boot" => Some(Word::Boot),
+            b"verdict" => Some(Word::Verdict),
+            b"verdict_of" => Some(Word::VerdictOf),
+            b"by_id" => Some(Word::ById),
+            b"by_name" => Some(Word::ByName),
+            b"select" => Some(Word::Select),
+            b"begin" => Some(Word::Begin),
+            b"built" => Some(Word::Built),
+            b"write_plan" => Some(Word::WritePlan),
+            b"read_plan" => Some(Word::ReadPlan),
+            _ => None,
         }
-        k += 1;
-        at = end + 1;
     }
-    k
-}
 
-fn fits(line: &[u8], entry: &[u8]) -> bool {
-    let blank = caseline::find(entry, 0, b' ');
-    if !lent::same(caseline::word(line, 0), lent::part(entry, 0, blank)) {
-        return false;
+    // Whether what it takes stands behind it, and nothing else.
+    fn fits(self, line: Line) -> bool {
+        match self {
+            Word::Scalar | Word::String | Word::Like | Word::Nested | Word::NestedArray => {
+                is_shaped(line, &[FIELD, HEX])
+            }
+            Word::At | Word::Size | Word::Hash | Word::Boot => is_shaped(line, &[NUMBER]),
+            Word::FinishBase => is_shaped(line, &[]),
+            Word::Finish | Word::Layout | Word::Sum => is_shaped(line, &[HEX]),
+            Word::Plan => is_shaped(
+                line,
+                &[NUMBER, NUMBER, NUMBER, BODY, MARKS, NUMBER, NUMBER, HEX],
+            ),
+            Word::Put | Word::Verdict => is_shaped(line, &[NUMBER, HEX]),
+            Word::Apply => is_shaped(line, &[NUMBER, NUMBER, HEX, NUMBER, TARGET]),
+            Word::Upgrade => is_shaped(
+                line,
+                &[NUMBER, HEX, SHORT, NUMBER, NUMBER, HEX, NUMBER, TARGET],
+            ),
+            Word::Catalogue => is_shaped(line, &[Kind::Hex(CATALOGUE_SIZE)]),
+            Word::Window => is_shaped(line, &[HEX, NUMBER, NUMBER]),
+            Word::Field => is_shaped(line, &[HEX, NUMBER]),
+            Word::Slots | Word::Visits => is_shaped(line, &[NUMBER, NUMBER]),
+            Word::VerdictOf | Word::ByName => is_shaped(line, &[SHORT, HEX]),
+            Word::ById => is_shaped(line, &[SHORT, SHORT]),
+            Word::Select => is_shaped(line, &[NUMBER, Kind::Schema, HEX]),
+            Word::Begin => is_shaped(line, &[Kind::Holder, Kind::Rest]),
+            Word::Built => is_shaped(line, &[Kind::Number(limits::MAX_FIELDS), Kind::Rest]),
+            Word::WritePlan => is_shaped(line, &[ROOM, NUMBER, HEX, Kind::Hex(STEPS_SIZE)]),
+            Word::ReadPlan => is_shaped(line, &[ROOM, HEX]),
+        }
     }
-    if blank < entry.len() {
-        return shaped(line, &entry[blank..]);
-    }
-    caseline::words(line) == 1
-}
 
-// Word i has kind i; the blank stands where the first word does. Where a star stands there may be any words.
-fn shaped(line: &[u8], kinds: &[u8]) -> bool {
-    let starred = caseline::find(kinds, 0, b'*') < kinds.len();
-    let mut good = starred | (caseline::words(line) == kinds.len());
-    let mut i = 1;
-    while i < kinds.len() {
-        good = good & is_kind(caseline::word(line, i), kinds[i]);
-        i += 1;
-    }
-    good
-}
-
-fn is_kind(text: &[u8], kind: u8) -> bool {
-    match kind {
-        b'*' => true,
-        b'd' => lent::same(text, b"-") | at_most(text, 65535),
-        b'k' => lent::same(text, b"record") | lent::same(text, b"struct"),
-        b'A'..=b'Z' => caseline::is_hex(text) & (text.len() / 2 <= most(kind)),
-        _ => at_most(text, most(kind)),
-    }
-}
-
-fn at_most(text: &[u8], n: usize) -> bool {
-    match caseline::number(text) {
-        caseline::Parsed::Is(v) => v <= n,
-        caseline::Parsed::Malformed => false,
-    }
-}
-
-// The largest number of a small letter; the most bytes in hex of a capital. Besides there are `d`, a number
-// of two bytes or a dash, `k`, what a cursor may begin, and the star.
-fn most(kind: u8) -> usize {
-    match kind {
-        b'f' => limits::MAX_FIELDS,
-        b's' => 65535,
-        b'r' => 16384,
-        b'R' => 16,
-        b'M' => 256,
-        b'C' => 1024,
-        b'W' => 4096,
-        b'B' => 4224,
-        b'T' => 5120,
-        b'H' => 32768,
-        _ => 999999999,
+    // Which word a line has; one with something else behind it is malformed, and none.
+    pub fn of(line: Line) -> Option<Self> {
+        Word::named(line.word(0)).filter(|word| word.fits(line))
     }
 }

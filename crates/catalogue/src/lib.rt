@@ -22,7 +22,7 @@ const PADDING_ID: usize = 260;
 
 const LAST_ID: u8 = 255;
 
-// The classes.
+// The classes: numbers and no enum, since the high half of a lent byte may be 7 to 15 too, and such a class is only ever compared.
 pub const OTHER: u8 = 0;
 
 pub const UNSIGNED: u8 = 1;
@@ -82,16 +82,12 @@ pub fn padding_id(cat: &[u8]) -> u16
 fn search_id(cat: &[u8], class: u8) -> u8
     ensures { result ≡ id_of cat.now class }
 {
-    let mut id: u8 = 0;
-    let mut left: u8 = LAST_ID;
-    while left != 0 {
+    for id in 0..LAST_ID {
         if class_of(cat, id) == class {
             return id;
         }
-        id += 1;
-        left -= 1;
     }
-    id
+    LAST_ID
 }
 
 fn id_if(kind: u8, class: u8, id: u8) -> u8
@@ -100,22 +96,14 @@ fn id_if(kind: u8, class: u8, id: u8) -> u8
     if kind / 16 == class { id } else { LAST_ID }
 }
 
-fn lesser(a: u8, b: u8) -> u8
-    ensures { result ≡ min a b }
-{
-    if a < b { a } else { b }
-}
-
 // No way out before the end, for the same reason as in `kinds_ok`.
 fn least_id(cat: &[u8], class: u8) -> u8
     requires { 256 ≤ length cat.now }
     ensures { result ≡ id_of cat.now class }
 {
     let mut best: u8 = LAST_ID;
-    let mut id: usize = 0;
-    while id < IDS {
-        best = lesser(best, id_if(cat[id], class, id as u8));
-        id += 1;
+    for (id, kind) in cat[..IDS].iter().enumerate() {
+        best = best.min(id_if(*kind, class, id as u8));
     }
     best
 }
@@ -160,18 +148,14 @@ fn kind_ok(kind: u8) -> bool
         | ((width == 0) & ((class == OTHER) | ((DECIMAL < class) & (class <= PADDING))))
 }
 
-// No way out before the end: so it compiles to many ids at a time.
+// No way out before the end: so it compiles to many ids at a time. The length of what is lent, a slice, is tested once, in `catalogue_ok`.
 fn kinds_ok(cat: &[u8]) -> bool
     requires { length cat.now ≡ 262 }
     ensures { result ≡ every kind_ok (kinds cat.now) }
 {
     let mut good = true;
-    let mut at = 0;
-    let mut left: usize = IDS;
-    while left != 0 {
-        good = good & kind_ok(cat[at]);
-        at += 1;
-        left -= 1;
+    for kind in &cat[..IDS] {
+        good = good & kind_ok(*kind);
     }
     good
 }
@@ -182,12 +166,8 @@ fn count_half(cat: &[u8], from: usize, low: u8, high: u8) -> u8
     ensures { result ≡ tally (within low high) (gather (byte_at cat.now) 1 from 128) }
 {
     let mut n: u8 = 0;
-    let mut at = from;
-    let mut left: usize = HALF;
-    while left != 0 {
-        n += lent::one((low <= cat[at]) & (cat[at] <= high));
-        at += 1;
-        left -= 1;
+    for kind in &cat[from..from + HALF] {
+        n += lent::one((low <= *kind) & (*kind <= high));
     }
     n
 }

@@ -1,11 +1,11 @@
 -- The checked cases, P1 to P8, in one table: what is asked, and the numbers that are stated for it.
-use Rattle.std.specs.Prelude.{ℕ, ◌-◌, ◌^◌, Bool, true, false, List, [], ◌∷◌, ◌++◌, ◌≡◌, take, drop, replicate}
+use Rattle.std.specs.Prelude.{Result, Ok, Err, ℕ, ◌-◌, ◌^◌, Bool, true, false, List, [], ◌∷◌, ◌++◌, ◌≡◌, take, drop, replicate}
 use Rattle.limits.specs.Refusal.{number_of}
 use Rattle.crc64.specs.Avro.{fingerprint}
 use Rattle.field.specs.declared.FieldDef.{FieldDef}
 use Rattle.hash_rules.specs.Hash.{hash_of}
-use Rattle.hash_rules.specs.declared.Hashed.{Hashed}
-use Rattle.hash_rules.specs.declared.Hashed.TheVariants.{Sum, Refused}
+use Rattle.limits.specs.declared.refusal.Refusal.{Refusal}
+use Rattle.hash_rules.specs.declared.Walked.{Walked}
 use Rattle.step.specs.Step.{copy, int}
 use Rattle.slot.specs.Plan.{Plan}
 use Rattle.mapping.specs.Mapping.{map_int}
@@ -20,9 +20,9 @@ pub data Case : Type 0 where
   -- a record upgraded by a plan
   Record : Plan → List ℕ → Case
 
-abbrev pub hash_numbers : Hashed → List ℕ
-hash_numbers (Sum hash visits) = hash ∷ visits ∷ []
-hash_numbers (Refused refusal) = number_of refusal ∷ []
+abbrev pub hash_numbers : Result Walked Refusal → List ℕ
+hash_numbers (Ok walked) = walked.fp ∷ walked.visits ∷ []
+hash_numbers (Err refusal) = number_of refusal ∷ []
 
 -- a target that holds something else before
 abbrev pub body_after : Plan → List ℕ → List ℕ

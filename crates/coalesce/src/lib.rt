@@ -1,21 +1,14 @@
 // coalesce of dbn's upgrade.rs: two neighbours become one copy where both end inside both bases.
 #![tactic(auto)]
 
-ghost use Rattle.std.specs.Prelude.{◌≡◌, cond, ◌+◌, ◌<◌};
+ghost use Rattle.std.specs.Prelude.{◌≡◌, cond, false, ◌+◌, ◌<◌, Some, None, IfSome, IsNone};
 ghost use Rattle.step.specs.Step.{copy};
-ghost use Rattle.coalesce.specs.Joins.{in_bases, adjacent, joins, joined};
+ghost use Rattle.coalesce.specs.Joins.{is_copy, in_bases, adjacent, joins, joined};
 
 use step::{Op, Step};
 
-// Two neighbours become one step, or stay two.
-#[derive(Clone, Copy)]
-pub enum Joining {
-    One(Step),
-    Two,
-}
-
 // Where the source's base ends, and the target's.
-#[derive(Clone, Copy)]
+#[derive(Clone, Copy, Debug, PartialEq, Eq)]
 pub struct Bases {
     pub source: usize,
     pub target: usize,
@@ -32,25 +25,44 @@ struct Run {
 fn inside(run: Run, bases: Bases) -> bool
     ensures { result ≡ in_bases bases.source bases.target (copy run.source run.target run.size) }
 {
-    let size = lent::wide16(run.size);
-    (lent::wide16(run.source) + size <= bases.source)
-        & (lent::wide16(run.target) + size <= bases.target)
+    let size = usize::from(run.size);
+    (usize::from(run.source) + size <= bases.source)
+        & (usize::from(run.target) + size <= bases.target)
 }
 
 fn adjacent(a: Run, b: Run) -> bool
     ensures { result ≡ adjacent (copy a.source a.target a.size) (copy b.source b.target b.size) }
 {
-    let size = lent::wide16(a.size);
-    (lent::wide16(a.source) + size == lent::wide16(b.source))
-        & (lent::wide16(a.target) + size == lent::wide16(b.target))
+    let size = usize::from(a.size);
+    (usize::from(a.source) + size == usize::from(b.source))
+        & (usize::from(a.target) + size == usize::from(b.target))
 }
 
-fn join_runs(a: Run, b: Run, bases: Bases) -> Joining
+// A copy's numbers; an integer step has none.
+fn run_of(step: Step) -> Option<Run>
+    ensures copied { IfSome result (λ run. step ≡ copy run.source run.target run.size) }
+    ensures integer { IsNone result → is_copy step.op ≡ false }
+{
+    match step.op {
+        Op::Copy {
+            src_offset: source,
+            dst_offset: target,
+            size,
+        } => Some(Run {
+            source,
+            target,
+            size,
+        }),
+        Op::Int { .. } => None,
+    }
+}
+
+fn join_runs(a: Run, b: Run, bases: Bases) -> Option<Step>
     requires { bases.source < 65536 }
-    ensures { result ≡ cond (joins bases.source bases.target (copy a.source a.target a.size) (copy b.source b.target b.size)) (Joining.One (copy a.source a.target (a.size + b.size))) Joining.Two }
+    ensures { result ≡ cond (joins bases.source bases.target (copy a.source a.target a.size) (copy b.source b.target b.size)) (Some (copy a.source a.target (a.size + b.size))) None }
 {
     if (inside(a, bases) & inside(b, bases)) & adjacent(a, b) {
-        return Joining::One(Step {
+        return Some(Step {
             op: Op::Copy {
                 src_offset: a.source,
                 dst_offset: a.target,
@@ -58,40 +70,13 @@ fn join_runs(a: Run, b: Run, bases: Bases) -> Joining
             },
         });
     }
-    Joining::Two
+    None
 }
 
-pub fn join(a: Step, b: Step, bases: Bases) -> Joining
+// None: they stay two.
+pub fn join(a: Step, b: Step, bases: Bases) -> Option<Step>
     requires { bases.source < 65536 }
-    ensures { result ≡ cond (joins bases.source bases.target a b) (Joining.One (joined a b)) Joining.Two }
+    ensures { result ≡ cond (joins bases.source bases.target a b) (Some (joined a b)) None }
 {
-    let first = a.op;
-    let next = b.op;
-    match first {
-        Op::Int { .. } => Joining::Two,
-        Op::Copy {
-            src_offset,
-            dst_offset,
-            size,
-        } => match next {
-            Op::Int { .. } => Joining::Two,
-            Op::Copy {
-                src_offset: from,
-                dst_offset: to,
-                size: more,
-            } => join_runs(
-                Run {
-                    source: src_offset,
-                    target: dst_offset,
-                    size: size,
-                },
-                Run {
-                    source: from,
-                    target: to,
-                    size: more,
-                },
-                bases,
-            ),
-        },
-    }
+    join_runs(run_of(a)?, run_of(b)?, bases)
 }

@@ -21,18 +21,15 @@ module _ (cat s : List ℕ) (r : RecordLayout) (c : List ℕ) (q : RecordLayout)
   base-larger h t u et eu = rw (le-leb _ _ h, et, eu)
 
 -- what a compiled field needs: nothing if it is padding, else an equal
-module _ (cat s : List ℕ) (haves : List FieldDef) (c : List ℕ) (want x : FieldDef) (e : x ≡ want) where
-  pub met-padding : is_padding cat x ≡ true → met cat s haves c want ≡ true
-  met-padding p = let q : is_padding cat want ≡ true = rw e at p in rw q
+module _ (cat s : List ℕ) (haves : List FieldDef) (c : List ℕ) (want : FieldDef) where
+  pub met-padding : is_padding cat want ≡ true → met cat s haves c want ≡ true
+  met-padding p = rw p
 
-  pub met-found : true ≡ some (λ have. field_eq cat s have c x) haves → met cat s haves c want ≡ true
-  met-found f = go (is_padding cat want) (rw e at f) where
+  pub met-found : true ≡ some (λ have. field_eq cat s have c want) haves → met cat s haves c want ≡ true
+  met-found f = go (is_padding cat want) f where
     go : (p : Bool) → true ≡ some (λ have. field_eq cat s have c want) haves → (p || some (λ have. field_eq cat s have c want) haves) ≡ true
     go true g = refl
     go false g = sym g
 
-  pub met-lacks : is_padding cat x ≡ false → false ≡ some (λ have. field_eq cat s have c x) haves → met cat s haves c want ≡ false
-  met-lacks p f =
-      let q : is_padding cat want ≡ false = rw e at p in
-      let g : false ≡ some (λ have. field_eq cat s have c want) haves = rw e at f in
-      rw q (sym g)
+  pub met-lacks : is_padding cat want ≡ false → false ≡ some (λ have. field_eq cat s have c want) haves → met cat s haves c want ≡ false
+  met-lacks p f = rw p (sym f)

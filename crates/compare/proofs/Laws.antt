@@ -9,18 +9,18 @@ use Rattle.field.specs.Field.{fields_of}
 use Rattle.field.specs.declared.FieldDef.{FieldDef}
 use Rattle.layout.specs.Layout.{RecordLayout, record_at}
 use Rattle.layout.specs.Find.{first_of}
-use Rattle.layout.specs.declared.find.Place.TheVariants.{At}
+use Rattle.std.specs.Prelude.{Some}
 use Rattle.equal_rules.specs.Equal.{field_eq}
 use Rattle.compare.specs.Compare.{met, base_compatible, matches, verdict_of}
 use Rattle.compare.specs.declared.answer.Verdict.TheVariants.{Compiled}
 
 -- a layout against itself: the first record of its rtype is compiled
-pub same-compiled : (cat l : List ℕ) (h : ℕ) → first_of l (record_at l h).rtype ≡ At h → verdict_of cat l h l ≡ Compiled
+pub same-compiled : (cat l : List ℕ) (h : ℕ) → first_of l (record_at l h).rtype ≡ Some h → verdict_of cat l h l ≡ Compiled
 unfolding verdict_of
 same-compiled cat l h e = rw (e, eq-eqb (record_at l h).hash (record_at l h).hash refl)
 
 -- and so is any record that stores the hash of the first compiled record of its rtype
-pub hash-compiled : (cat s c : List ℕ) (h g : ℕ) → first_of c (record_at s h).rtype ≡ At g → (record_at s h).hash ≡ (record_at c g).hash → verdict_of cat s h c ≡ Compiled
+pub hash-compiled : (cat s c : List ℕ) (h g : ℕ) → first_of c (record_at s h).rtype ≡ Some g → (record_at s h).hash ≡ (record_at c g).hash → verdict_of cat s h c ≡ Compiled
 unfolding verdict_of
 hash-compiled cat s c h g e f = rw (e, eq-eqb (record_at s h).hash (record_at c g).hash f)
 

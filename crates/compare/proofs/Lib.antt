@@ -1,3 +1,2 @@
 pub mod Bases
 pub mod Laws
-pub mod Skipping

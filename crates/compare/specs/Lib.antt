@@ -1,2 +1,1 @@
 pub mod Compare
-pub mod Parts

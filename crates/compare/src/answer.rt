@@ -1,5 +1,5 @@
 // Verdict of dbn's layout.rs: read as compiled, or field by field.
-#[derive(Clone, Copy)]
+#[derive(Clone, Copy, Debug, PartialEq, Eq)]
 pub enum Verdict {
     Compiled,
     Dynamic,

@@ -3,52 +3,19 @@
 
 pub mod answer;
 
-ghost use Rattle.std.specs.Prelude.{◌≡◌, ◌+◌, ◌<◌, ◌≤◌, eqb, length};
-ghost use Rattle.field.specs.Field.{field_at};
+ghost use Rattle.std.specs.Prelude.{◌≡◌};
 ghost use Rattle.layout.specs.Layout.{record_at, FewFields};
 ghost use Rattle.compare.specs.Compare.{base_compatible, verdict_of};
-ghost use Rattle.compare.specs.Parts.{Skips};
 
 use crate::answer::Verdict;
 use field::Holder;
-use layout::find::Place;
+use field::rows::rows_of;
+use layout::block::Head;
 use layout::{block, find};
 
-fn is_id(t: &[u8], at: usize, id: u16) -> bool
-    requires { at + 2 ≤ length t.now }
-    ensures { result ≡ eqb (field_at t.now at).field_id id }
-{
-    lent::u16_in(t, at) == id
-}
-
-// How many fields of other ids stand in front, but for the last few: four in a turn.
-fn skipped(t: &[u8], id: u16) -> usize
-    ensures { Skips t.now id result }
-{
-    let n = t.len() / field::SIZE;
-    let mut k = 0;
-    while k + 4 <= n {
-        let at = field::SIZE * k;
-        if is_id(t, at, id) {
-            return k;
-        }
-        if is_id(t, at + 16, id) {
-            return k + 1;
-        }
-        if is_id(t, at + 32, id) {
-            return k + 2;
-        }
-        if is_id(t, at + 48, id) {
-            return k + 3;
-        }
-        k += 4;
-    }
-    k
-}
-
 // Left by label from the inner scan as soon as a field has its equal.
-fn is_base_compatible(cat: &[u8], s: &[u8], h: usize, c: &[u8], g: usize) -> bool
-    requires { FewFields s.now × FewFields c.now × (h < 4000000000) × (g < 4000000000) }
+fn is_base_compatible(cat: &[u8], s: &[u8], h: Head, c: &[u8], g: Head) -> bool
+    requires { FewFields s.now × FewFields c.now }
     ensures { result ≡ base_compatible cat.now s.now (record_at s.now h) c.now (record_at c.now g) }
 {
     if block::record_base(s, h) < block::record_base(c, g) {
@@ -56,46 +23,33 @@ fn is_base_compatible(cat: &[u8], s: &[u8], h: usize, c: &[u8], g: usize) -> boo
     }
     let haves = block::table_at(Holder::Record, s, h);
     let wants = block::table_at(Holder::Record, c, g);
-    let mut at = 0;
-    let mut left = wants.len() / field::SIZE;
-    'next: while left != 0 {
-        let here = at;
-        let want = field::field_in(wants, here);
-        at += field::SIZE;
-        left -= 1;
+    'next: for want in rows_of(wants) {
         if field::is_padding(cat, want) {
             continue 'next;
         }
-        let front = skipped(haves, want.field_id);
-        let mut from = field::SIZE * front;
-        let mut rest = haves.len() / field::SIZE - front;
-        while rest != 0 {
-            if equal::row_eq(cat, s, haves, from, c, wants, here) {
+        for have in rows_of(haves) {
+            if equal::field_eq(cat, s, have, c, want) {
                 continue 'next;
             }
-            from += field::SIZE;
-            rest -= 1;
         }
         return false;
     }
     true
 }
 
-// Of the stream's record whose head begins at h.
-pub fn verdict(cat: &[u8], s: &[u8], h: usize, c: &[u8]) -> Verdict
-    requires { FewFields s.now × FewFields c.now × (h < 4000000000) }
+// Of the stream's record whose head is h.
+pub fn verdict(cat: &[u8], s: &[u8], h: Head, c: &[u8]) -> Verdict
+    requires { FewFields s.now × FewFields c.now }
     ensures { result ≡ verdict_of cat.now s.now h c.now }
 {
-    match find::first_of(c, block::record_rtype(s, h)) {
-        Place::Nowhere => Verdict::Dynamic,
-        Place::At(g) => {
-            if block::record_hash(s, h) == block::record_hash(c, g) {
-                return Verdict::Compiled;
-            }
-            if is_base_compatible(cat, s, h, c, g) {
-                return Verdict::Compiled;
-            }
-            Verdict::Dynamic
-        }
+    let Some(g) = find::first_of(c, block::record_rtype(s, h)) else {
+        return Verdict::Dynamic;
+    };
+    if block::record_hash(s, h) == block::record_hash(c, g) {
+        return Verdict::Compiled;
     }
+    if is_base_compatible(cat, s, h, c, g) {
+        return Verdict::Compiled;
+    }
+    Verdict::Dynamic
 }

@@ -1,6 +1,7 @@
-// A bit at a time, as the rule is said: for a byte or two this is less work than to lay the table out.
-ghost use Rattle.std.specs.Prelude.{◌≡◌};
-ghost use Rattle.crc64.specs.Sum.{shift, byte_step, u16_step};
+// A bit at a time, as the rule is said: for a byte or two this is less work than to read a table.
+ghost use Rattle.std.specs.Prelude.{◌≡◌, ℕ, ◌/◌, ◌%◌, List, [], ◌∷◌};
+ghost use Rattle.crc64.specs.Sum.{shift, byte_step, u16_step, bytes_step};
+ghost use Rattle.crc64.specs.Summands.{one_byte, low-high};
 
 use crate::Crc64;
 
@@ -12,22 +13,46 @@ pub fn shift_one(fp: u64) -> u64
     (fp >> 1) ^ (mask & Crc64::EMPTY)
 }
 
-pub fn step_u8(start: u64, b: u8) -> u64
-    ensures { result ≡ byte_step start b }
-{
-    let mut fp = start ^ (b as u64);
-    let mut left: u8 = 8;
-    while left != 0 {
-        fp = shift_one(fp);
-        left -= 1;
-    }
-    fp
+// A number that a sum takes in.
+pub trait Summand {
+    // What becomes of a sum.
+    ghost step_of: { ℕ → Self → ℕ };
+
+    // Its bytes, the low one first.
+    ghost bytes: { Self → List ℕ };
+
+    fn step(self, fp: u64) -> u64
+        ensures { result ≡ step_of fp self };
+
+    // It goes in as its bytes do, one after the other.
+    ghost is_run: { (fp : ℕ) (v : Self) → step_of fp v ≡ bytes_step fp (bytes v) };
 }
 
-// The low byte goes first.
-pub fn step_u16(fp: u64, v: u16) -> u64
-    ensures { result ≡ u16_step fp v }
-{
-    let low = step_u8(fp, (v & 0xFF) as u8);
-    step_u8(low, (v >> 8) as u8)
+impl Summand for u8 {
+    ghost step_of = { byte_step };
+
+    ghost bytes = { λ b. b ∷ [] };
+
+    ghost is_run = { one_byte };
+
+    fn step(self, start: u64) -> u64 {
+        let mut fp = start ^ (self as u64);
+        for _turn in 0..8u8 {
+            fp = shift_one(fp);
+        }
+        fp
+    }
+}
+
+impl Summand for u16 {
+    ghost step_of = { u16_step };
+
+    ghost bytes = { λ v. v % 256 ∷ v / 256 ∷ [] };
+
+    ghost is_run = { low-high };
+
+    fn step(self, fp: u64) -> u64 {
+        let low = ((self & 0xFF) as u8).step(fp);
+        ((self >> 8) as u8).step(low)
+    }
 }

@@ -1,10 +1,9 @@
-// A byte at a time, by a table of what eight shifts give. The table is laid out once and lent: an index into the constant
-// would lay all of it out again.
-ghost use Rattle.std.specs.Prelude.{◌≡◌};
-ghost use Rattle.crc64.specs.Sum.{byte_table, due, byte_step, bytes_step};
+// A byte at a time, by a table of what eight shifts give.
+ghost use Rattle.std.specs.Prelude.{◌≡◌, bit_and};
+ghost use Rattle.crc64.specs.Sum.{byte_table, due, shifts, byte_step, bytes_step};
 
 // Entry i is eight shifts of i.
-const TABLE: [u64; 256] = [
+static TABLE: [u64; 256] = [
     0x0000000000000000,
     0x2CF1CBA6B75351FA,
     0x59E3974D6EA6A3F4,
@@ -263,19 +262,24 @@ const TABLE: [u64; 256] = [
     0x9A3978B155ABF5B0,
 ];
 
-pub fn table() -> [u64; 256]
-    ensures { result ≡ byte_table }
+pub fn table() -> &'static [u64; 256]
+    ensures { result.now ≡ byte_table }
 {
-    TABLE
+    &TABLE
+}
+
+// What the eight shifts make of the low byte alone.
+fn entry(x: u64) -> u64
+    ensures { result ≡ shifts 8 (bit_and x 255) }
+{
+    table()[(x & 0xFF) as usize]
 }
 
 // Of a sum that something was xored into, the eight shifts that are due.
-fn shifted(t: &[u64; 256], x: u64) -> u64
-    requires { t.now ≡ byte_table }
+fn shifted(x: u64) -> u64
     ensures { result ≡ due x }
 {
-    let i = (x & 0xFF) as usize;
-    (x >> 8) ^ t[i]
+    (x >> 8) ^ entry(x)
 }
 
 // A run of bytes is carried with a byte xored in and its shifts due: the next byte goes in beside the look-up, not after it.
@@ -285,26 +289,21 @@ fn begun(fp: u64, b: u8) -> u64
     fp ^ (b as u64)
 }
 
-fn carried(t: &[u64; 256], x: u64, b: u8) -> u64
-    requires { t.now ≡ byte_table }
+fn carried(x: u64, b: u8) -> u64
     ensures { due result ≡ byte_step (due x) b }
 {
-    let i = (x & 0xFF) as usize;
-    ((x >> 8) ^ (b as u64)) ^ t[i]
+    ((x >> 8) ^ (b as u64)) ^ entry(x)
 }
 
-pub fn step_bytes(t: &[u64; 256], start: u64, b: &[u8]) -> u64
-    requires { t.now ≡ byte_table }
-    ensures { result ≡ bytes_step start b.now }
+pub fn step_bytes(start: u64, bytes: &[u8]) -> u64
+    ensures { result ≡ bytes_step start bytes.now }
 {
-    if b.len() == 0 {
+    let Some((first, others)) = bytes.split_first() else {
         return start;
+    };
+    let mut x = begun(start, *first);
+    for b in others {
+        x = carried(x, *b);
     }
-    let mut x = begun(start, b[0]);
-    let mut i = 1;
-    while i < b.len() {
-        x = carried(t, x, b[i]);
-        i += 1;
-    }
-    shifted(t, x)
+    shifted(x)
 }

@@ -5,7 +5,7 @@ ghost use Rattle.lent.specs.Bytes.{bytes_of};
 ghost use Rattle.crc64.specs.Sum.{digit_table, bytes_step};
 
 // Entry 16 k + d is the digit d with k digits above it: 4 (k + 1) shifts of d. Ten digits are five bytes.
-const TABLE: [u64; 160] = [
+static TABLE: [u64; 160] = [
     0x0000000000000000,
     0x48D27CF4AFC4CEDD,
     0x91A4F9E95F899DBA,
@@ -168,24 +168,23 @@ const TABLE: [u64; 160] = [
     0x552FBEEB507D3036,
 ];
 
-pub fn table() -> [u64; 160]
-    ensures { result ≡ digit_table }
+pub fn table() -> &'static [u64; 160]
+    ensures { result.now ≡ digit_table }
 {
-    TABLE
+    &TABLE
 }
 
 // A number of n bytes, the low one first: all of it is xored in at once, and then each digit's shifts follow, the low one first.
-pub fn step_number(t: &[u64; 160], fp: u64, v: u64, n: usize) -> u64
-    requires { (t.now ≡ digit_table) × (n ≤ 5) × (v < 256 ^ n) }
+pub fn step_number(fp: u64, v: u64, n: usize) -> u64
+    requires { (n ≤ 5) × (v < 256 ^ n) }
     ensures { result ≡ bytes_step fp (bytes_of n v) }
 {
+    let t = table();
     let mut rest = fp ^ v;
     let mut sum: u64 = 0;
-    let mut left = 2 * n;
-    while left != 0 {
-        left -= 1;
+    for above in (0..2 * n).rev() {
         let digit = (rest % 16) as usize;
-        sum = sum ^ t[16 * left + digit];
+        sum = sum ^ t[16 * above + digit];
         rest = rest / 16;
     }
     sum ^ rest

@@ -1,16 +1,19 @@
 // Crc64 of dbn's hash.rs: CRC-64-AVRO, the sum behind a layout's hash.
 #![tactic(auto)]
 
+// Bytes and digits have a table and a walk each: they differ in their entries and in how they are read, not in a type or a size.
 pub mod bitwise;
 pub mod bytewise;
 pub mod digitwise;
 
 ghost use Rattle.std.specs.Prelude.{◌≡◌};
-ghost use Rattle.crc64.specs.Sum.{empty, byte_step, u16_step, bytes_step};
+ghost use Rattle.crc64.specs.Sum.{empty, bytes_step};
 ghost use Rattle.crc64.specs.Avro.{fingerprint};
 
+use bitwise::Summand;
+
 // A running sum.
-#[derive(Clone, Copy)]
+#[derive(Clone, Copy, Debug, PartialEq, Eq)]
 pub struct Crc64 {
     pub fp: u64,
 }
@@ -24,28 +27,19 @@ impl Crc64 {
         Self { fp: Self::EMPTY }
     }
 
-    pub fn with_u8(self, b: u8) -> Self
-        ensures { result.fp ≡ byte_step self.fp b }
+    pub fn with<N: Summand>(self, number: N) -> Self
+        ensures { result.fp ≡ N.step_of self.fp number }
     {
         Self {
-            fp: bitwise::step_u8(self.fp, b),
-        }
-    }
-
-    pub fn with_u16(self, v: u16) -> Self
-        ensures { result.fp ≡ u16_step self.fp v }
-    {
-        Self {
-            fp: bitwise::step_u16(self.fp, v),
+            fp: number.step(self.fp),
         }
     }
 
     pub fn with_bytes(self, b: &[u8]) -> Self
         ensures { result.fp ≡ bytes_step self.fp b.now }
     {
-        let t = bytewise::table();
         Self {
-            fp: bytewise::step_bytes(&t, self.fp, b),
+            fp: bytewise::step_bytes(self.fp, b),
         }
     }
 
@@ -63,15 +57,9 @@ pub fn sum(bytes: &[u8]) -> u64
     Crc64::new().with_bytes(bytes).finish()
 }
 
-// The same steps on a sum that is lent, which is changed in place.
-pub fn hash_u8(crc: &mut Crc64, b: u8)
-    ensures { crc.new.fp ≡ byte_step crc.old.fp b }
+// The same on a sum that is lent, which is changed in place.
+pub fn hash<N: Summand>(crc: &mut Crc64, number: N)
+    ensures { crc.new.fp ≡ N.step_of crc.old.fp number }
 {
-    *crc = crc.with_u8(b);
-}
-
-pub fn hash_u16(crc: &mut Crc64, v: u16)
-    ensures { crc.new.fp ≡ u16_step crc.old.fp v }
-{
-    *crc = crc.with_u16(v);
+    *crc = crc.with(number);
 }

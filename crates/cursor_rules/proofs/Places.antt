@@ -14,7 +14,7 @@ use Rattle.cursor_rules.specs.Cursor.{Building, building, outcome, done, refuse,
 use Rattle.cursor_rules.proofs.Align.{up_from}
 use Rattle.cursor_rules.proofs.Rooms.{padded}
 use Rattle.cursor_rules.specs.declared.FieldCursor.{FieldCursor}
-use Rattle.cursor_rules.specs.declared.Placed.TheVariants.{At}
+use Rattle.std.specs.Prelude.{Ok}
 
 pub both_false : (a : Bool) → (a && false) ≡ false
 both_false true = refl
@@ -31,18 +31,14 @@ module _ (cat : List ℕ) (b : Building) where
       (omega arith, omega arith, omega arith)
 
   module _ (f : FieldDef) (name : List ℕ) where
-    pub lays : (to : ℕ) (p r : FieldCursor) (t n t' n' : List ℕ) → to ≡ f.offset → building p t n ≡ pad_to cat to b → building r t' n' ≡ push f name (building p t n)
-        → fits (gaps b.state to + 1) (end_of f) b ≡ true → outcome (At r) t' n' ≡ lay cat f name b
+    pub lays : (p r : FieldCursor) (t n t' n' : List ℕ) → building p t n ≡ pad_to cat f.offset b → building r t' n' ≡ push f name (building p t n)
+        → fits (gaps b.state f.offset + 1) (end_of f) b ≡ true → outcome (Ok r) t' n' ≡ lay cat f name b
     unfolding lay
-    lays to p r t n t' n' et ep er e =
-        let z : fits (gaps b.state f.offset + 1) (end_of f) b ≡ true = rw et at e in
-        rw z (ap done (er ∙ ap (push f name) (ep ∙ ap (λ (k : ℕ). pad_to cat k b) et)))
+    lays p r t n t' n' ep er e = rw e (ap done (er ∙ ap (push f name) ep))
 
-    pub lays-not : (to : ℕ) → to ≡ f.offset → fits (gaps b.state to + 1) (end_of f) b ≡ false → refuse CursorFull b ≡ lay cat f name b
+    pub lays-not : fits (gaps b.state f.offset + 1) (end_of f) b ≡ false → refuse CursorFull b ≡ lay cat f name b
     unfolding lay
-    lays-not to et e =
-        let z : fits (gaps b.state f.offset + 1) (end_of f) b ≡ false = rw et at e in
-        rw z
+    lays-not e = rw e
 
     -- a cursor past the limit
     module _ (align : ℕ) where

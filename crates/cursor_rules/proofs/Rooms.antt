@@ -2,9 +2,9 @@
 use mathlib.Core.Path.{◌≡◌, refl, ap}
 use mathlib.Core.Bool.{Bool, true, false, cond, ◌&&◌}
 use mathlib.Core.List.{List, []}
-use Prim.Native.Nat.{ℕ, ◌+◌, ◌-◌, ◌≤◌, ◌<◌}
+use Prim.Native.Nat.{ℕ, ◌+◌, ◌-◌, ◌≤◌}
 use native.Mathlib.Omega.{arith}
-use borrow.Author.Tests.{le-leb, lt-leb, leb-true}
+use borrow.Author.Tests.{leb-true}
 use lib.Dec.{leb, ltb}
 use lib.ListN.{length}
 use lib.Seq.{length-sets}
@@ -13,7 +13,7 @@ use Rattle.limits.specs.Limits.{max_bytes}
 use Rattle.limits.specs.declared.refusal.Refusal.TheVariants.{CursorFull}
 use Rattle.cursor_rules.specs.Cursor.{Building, building, outcome, done, refuse, padding_field, push, pad_to, gaps, fits, move_to}
 use Rattle.cursor_rules.specs.declared.FieldCursor.{FieldCursor}
-use Rattle.cursor_rules.specs.declared.Placed.TheVariants.{At}
+use Rattle.std.specs.Prelude.{Ok}
 
 pub room-there : (n count most end : ℕ) → (leb (n + count) most && leb end max_bytes) ≡ true → (n + count ≤ most) × (end ≤ max_bytes)
 room-there n count most end e =
@@ -32,15 +32,12 @@ module _ (cat : List ℕ) (to : ℕ) (b : Building) where
     go true = (omega arith, simp length-sets, simp length-sets)
     go false = (omega arith, refl, refl)
 
-  module _ (low : b.state.cursor ≤ to) where
-    pub moved : (r : FieldCursor) (t n : List ℕ) → fits (gaps b.state to) to b ≡ true → building r t n ≡ pad_to cat to b → outcome (At r) t n ≡ move_to cat to b
-    unfolding move_to
-    moved r t n e h = rw (le-leb b.state.cursor to low, e) (ap done h)
-
-    pub unmoved : fits (gaps b.state to) to b ≡ false → refuse CursorFull b ≡ move_to cat to b
-    unfolding move_to
-    unmoved e = rw (le-leb b.state.cursor to low, e)
-
-  pub behind : to < b.state.cursor → refuse CursorFull b ≡ move_to cat to b
+  -- the cursor moves where that is not behind it and there is room
+  pub moved : (r : FieldCursor) (t n : List ℕ) → (leb b.state.cursor to && fits (gaps b.state to) to b) ≡ true → building r t n ≡ pad_to cat to b
+      → outcome (Ok r) t n ≡ move_to cat to b
   unfolding move_to
-  behind h = rw (lt-leb b.state.cursor to h)
+  moved r t n e h = rw e (ap done h)
+
+  pub unmoved : (leb b.state.cursor to && fits (gaps b.state to) to b) ≡ false → refuse CursorFull b ≡ move_to cat to b
+  unfolding move_to
+  unmoved e = rw e

@@ -1,5 +1,5 @@
 -- The field cursor: its state, the table and the names that it fills, and what it is to push a field, to fill a gap and to place a field.
-use Rattle.std.specs.Prelude.{ℕ, ◌+◌, ◌-◌, ◌*◌, ◌/◌, min, max, Bool, false, cond, not, ◌&&◌, ◌||◌, List, [], ◌∷◌, ◌++◌, leb, ltb, eqb, pos, length, replicate}
+use Rattle.std.specs.Prelude.{Result, Ok, Err, ℕ, ◌+◌, ◌-◌, ◌*◌, ◌/◌, min, max, Bool, false, cond, not, ◌&&◌, ◌||◌, List, [], ◌∷◌, ◌++◌, leb, ltb, eqb, pos, length, replicate}
 use Rattle.std.specs.Int.Bits.{bit_or}
 use Rattle.std.proofs.lemmas.List.Edits.{sets}
 use Rattle.limits.specs.Limits.{max_bytes, max_fields, max_struct_fields, max_name}
@@ -12,8 +12,6 @@ use Rattle.field.specs.declared.FieldDef.{FieldDef}
 use Rattle.field.specs.declared.Holder.{Holder}
 use Rattle.field.specs.declared.Holder.TheVariants.{Record, Struct}
 use Rattle.cursor_rules.specs.declared.FieldCursor.{FieldCursor}
-use Rattle.cursor_rules.specs.declared.Placed.{Placed}
-use Rattle.cursor_rules.specs.declared.Placed.TheVariants.{At, Refused}
 
 -- ---- a field and a name as bytes
 
@@ -94,19 +92,19 @@ pad_to cat to b = cond (ltb b.state.cursor to) (push (padding_field cat b.state.
 -- ---- what a call answers, and what it leaves
 
 pub record Outcome : Type 0 where
-  pub answer : Placed
+  pub answer : Result FieldCursor Refusal
   pub table : List ℕ
   pub names : List ℕ
 
-abbrev pub outcome : Placed → List ℕ → List ℕ → Outcome
+abbrev pub outcome : Result FieldCursor Refusal → List ℕ → List ℕ → Outcome
 outcome answer t ns = record { answer = answer; table = t; names = ns }
 
 abbrev pub done : Building → Outcome
-done b = outcome (At b.state) b.table b.names
+done b = outcome (Ok b.state) b.table b.names
 
 -- a refusal leaves all as it was
 abbrev pub refuse : Refusal → Building → Outcome
-refuse refusal b = outcome (Refused refusal) b.table b.names
+refuse refusal b = outcome (Err refusal) b.table b.names
 
 -- 14: so many fields more, up to `end`
 abbrev pub fits : ℕ → ℕ → Building → Bool

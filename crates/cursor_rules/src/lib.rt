@@ -5,27 +5,20 @@ ghost use Rattle.std.specs.Prelude.{◌≡◌};
 ghost use Rattle.cursor_rules.specs.Cursor.{field_limit, fresh, flags_after};
 
 use field::{FieldDef, Holder};
-use limits::refusal::Refusal;
 
-#[derive(Clone, Copy)]
+#[derive(Clone, Copy, Debug, PartialEq, Eq)]
 pub struct FieldCursor {
     // The most fields that the table may have.
     pub most: usize,
     pub count: usize,
     pub cursor: usize,
-    // The base, once it is noted.
+    // The base, once it is noted; before that a number that C's state keeps as it was, so it is no Option.
     pub base: usize,
     pub based: bool,
 }
 
-#[derive(Clone, Copy)]
-pub enum Placed {
-    At(FieldCursor),
-    Refused(Refusal),
-}
-
-// How often a struct stands in a nested field; an array of one is an array.
-#[derive(Clone, Copy)]
+// How often a struct stands in a nested field. It is no Option of a count: an array of one is an array.
+#[derive(Clone, Copy, Debug, PartialEq, Eq)]
 pub enum Times {
     One,
     Array(u16),

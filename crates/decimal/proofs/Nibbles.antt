@@ -4,8 +4,8 @@ use mathlib.Core.Bool.{Bool, true, false, cond, ◌&&◌}
 use mathlib.Core.List.{List, [], ◌∷◌, ◌++◌}
 use Prim.Native.Nat.{ℕ, zero, suc, ◌+◌, ◌-◌, ◌*◌, ◌/◌, ◌%◌, ◌≤◌, ◌<◌}
 use native.Mathlib.Omega.{arith}
-use lib.ListN.{length, take, drop, set}
-use lib.Seq.{sets, get_or-drop, drop-drop}
+use lib.ListN.{length, get_or, take, drop, set, length-take, length-drop}
+use lib.Seq.{sets, get_or-take, get_or-drop, drop-drop}
 use lib.Dec.{ltb, eqb}
 use borrow.Author.Tests.{ltb-true, ltb-false}
 use Rattle.lent.specs.Bytes.{byte_at, window}
@@ -20,6 +20,16 @@ pub hex-length : (bs : List ℕ) → length (hex bs) ≡ 2 * length bs
 unfolding hex
 hex-length [] = refl
 hex-length (b ∷ bs) = rw (hex-length bs) (omega arith)
+
+-- ---- n bytes from a place on, as a part of a slice
+
+pub part-length : (s : List ℕ) (from n : ℕ) → from + n ≤ length s → length (take (from + n - from) (drop from s)) ≡ n
+part-length s from n h = omega (arith, length-take (from + n - from) (drop from s), length-drop from s)
+
+pub part_at : (s : List ℕ) (from n i : ℕ) → i < n → get_or (take (from + n - from) (drop from s)) i 0 ≡ byte_at s (from + i)
+part_at s from n i h =
+    let m : from + n - from ≡ n = omega arith in
+    rw (m, get_or-take n (drop from s) i 0 h) (get_or-drop from s i 0)
 
 -- ---- turns: what is left gives what the whole does
 

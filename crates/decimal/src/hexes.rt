@@ -10,7 +10,7 @@ fn glyph(d: u8) -> u8
     requires { d < 16 }
     ensures { result ≡ glyph d }
 {
-    if d < 10 { 48 + d } else { 87 + d }
+    if d < 10 { b'0' + d } else { b'a' - 10 + d }
 }
 
 fn nibble(c: u8) -> u8
@@ -24,13 +24,10 @@ pub fn put_hex(s: &[u8], from: usize, n: usize, out: &mut [u8], at: usize) -> us
     requires { (from + n ≤ length s.now) × (at + 2 * n ≤ length out.old) }
     ensures { Put out.old at (hex (window s.now from n)) out.new result }
 {
-    let mut i = 0;
-    while i < n {
-        let b = s[from + i];
+    for (i, b) in s[from..from + n].iter().enumerate() {
         let to = at + 2 * i;
-        out[to] = glyph(b / 16);
-        out[to + 1] = glyph(b % 16);
-        i += 1;
+        out[to] = glyph(*b / 16);
+        out[to + 1] = glyph(*b % 16);
     }
     at + 2 * n
 }
@@ -40,14 +37,11 @@ pub fn same_hex(s: &[u8], from: usize, n: usize, text: &[u8], at: usize) -> bool
     requires { (from + n ≤ length s.now) × (at + 2 * n ≤ length text.now) }
     ensures { result ≡ alike eqb (hex (window s.now from n)) (window text.now at (2 * n)) }
 {
-    let mut i = 0;
-    while i < n {
-        let b = s[from + i];
+    for (i, b) in s[from..from + n].iter().enumerate() {
         let there = at + 2 * i;
-        if !((glyph(b / 16) == text[there]) & (glyph(b % 16) == text[there + 1])) {
+        if !((glyph(*b / 16) == text[there]) & (glyph(*b % 16) == text[there + 1])) {
             return false;
         }
-        i += 1;
     }
     true
 }
@@ -57,11 +51,9 @@ pub fn take_hex(text: &[u8], n: usize, out: &mut [u8], to: usize)
     requires { (n ≤ 65536) × (to + n ≤ length out.old) }
     ensures { out.new ≡ sets out.old to (unhex n text.now) }
 {
-    let mut i = 0;
-    while i < n {
+    for i in 0..n {
         let high = nibble(lent::byte_at(text, 2 * i));
         let low = nibble(lent::byte_at(text, 2 * i + 1));
         out[to + i] = 16 * high + low;
-        i += 1;
     }
 }

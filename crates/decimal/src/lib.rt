@@ -33,7 +33,7 @@ fn put_place(n: u16, unit: u16, out: &mut [u8], at: usize) -> usize
     ensures { Put out.old at (place unit n) out.new result }
 {
     if unit <= n {
-        return put_byte((48 + n / unit % 10) as u8, out, at);
+        return put_byte(b'0' + (n / unit % 10) as u8, out, at);
     }
     at
 }
@@ -46,7 +46,7 @@ fn put_decimal(n: u16, out: &mut [u8], at: usize) -> usize
     let b = put_place(n, 1000, out, a);
     let c = put_place(n, 100, out, b);
     let d = put_place(n, 10, out, c);
-    put_byte((48 + n % 10) as u8, out, d)
+    put_byte(b'0' + (n % 10) as u8, out, d)
 }
 
 // A number and the character that ends it.
@@ -91,23 +91,14 @@ pub fn skip(text: &[u8], at: usize, n: usize) -> usize
     at + n
 }
 
-fn is_digit(c: u8) -> bool
-    ensures { result ≡ is_digit c }
-{
-    (48 <= c) & (c <= 57)
-}
-
 fn push(v: u16, c: u8) -> u16
     ensures { result ≡ pushed v c }
 {
     let more = v as u32 * 10 + (c % 16) as u32;
-    if more <= 65535 {
-        return more as u16;
-    }
-    65535
+    u16::try_from(more).unwrap_or(u16::MAX)
 }
 
-#[derive(Clone, Copy)]
+#[derive(Clone, Copy, Debug, PartialEq, Eq)]
 pub struct Number {
     pub value: u16,
     pub next: usize,
@@ -118,15 +109,15 @@ pub fn take_number(text: &[u8], at: usize) -> Number
     requires { at ≤ length text.now }
     ensures { Taken text.now at result.value result.next }
 {
-    let mut v: u16 = 0;
-    let mut i = at;
-    while i < text.len() {
-        let c = text[i];
-        i += 1;
-        if !is_digit(c) {
-            return Number { value: v, next: i };
+    let mut value: u16 = 0;
+    for i in at..text.len() {
+        if !text[i].is_ascii_digit() {
+            return Number { value, next: i + 1 };
         }
-        v = push(v, c);
+        value = push(value, text[i]);
     }
-    Number { value: v, next: i }
+    Number {
+        value,
+        next: text.len(),
+    }
 }

@@ -1,20 +1,19 @@
 -- A byte of a default body that is not zero lies in a field, and so does what follows it there. Assumes nothing.
-use mathlib.Core.Path.{◌≡◌, refl, sym}
+use mathlib.Core.Path.{◌≡◌, refl}
 use mathlib.Core.Bool.{Bool, true, false, cond, ◌&&◌, ◌||◌}
 use mathlib.Core.List.{List, [], ◌∷◌}
-use Prim.Native.Nat.{ℕ, suc, ◌+◌, ◌-◌, ◌/◌, ◌≤◌, ◌<◌}
+use Prim.Native.Nat.{ℕ, ◌+◌, ◌-◌, ◌≤◌, ◌<◌}
 use native.Mathlib.Omega.{arith}
 use lib.Dec.{leb, ltb, eqb}
 use lib.ListN.{length}
-use borrow.Author.Tests.{leb-true, ltb-true, le-leb, lt-ltb, eq-eqb, ne_eqb, eqb-true, eqb-false}
+use borrow.Author.Tests.{leb-true, ltb-true, le-leb, lt-ltb, ne_eqb}
 use Rattle.lent.specs.Bytes.{byte_at, number_at}
 use Rattle.lent.specs.Scan.{every, some, first, places}
 use Rattle.lent.proofs.Bytes.{number-zero}
 use Rattle.lent.proofs.Scan.{both, passes, stops}
 use Rattle.field.specs.declared.FieldDef.{FieldDef}
-use Rattle.field.specs.Field.{field_at, counts}
-use Rattle.plan_rules.specs.Rule.{is_marked, want_at}
-use Rattle.defaults.specs.Defaults.{holds, covered, mark_holds, cover_end}
+use Rattle.field.specs.Field.{counts}
+use Rattle.defaults.specs.Defaults.{holds, covered, cover_end}
 
 or-true : (b : Bool) → (b || true) ≡ true
 or-true true = refl
@@ -74,23 +73,3 @@ module _ (cat : List ℕ) (fs : List FieldDef) (header : ℕ) (body : List ℕ) 
     gap-stops lt nz none =
         let e : (header + i) - header ≡ i = omega arith in
         stops (λ place. place) 1 (header + i) (length body - i) fine all so (omega arith) (rw (bare cat fs (header + i) none, e) (ne_eqb (byte_at body i) 0 nz))
-
--- ---- marks
-
-and-false : (b : Bool) → (b && false) ≡ false
-and-false true = refl
-and-false false = refl
-
--- a field without a mark asks nothing
-pub unmarked : (cat : List ℕ) (header : ℕ) (body marks table : List ℕ) (at : ℕ) → byte_at marks (at / 16) ≡ 0 → true ≡ mark_holds cat header body (want_at cat marks table at)
-unmarked cat header body marks table at z =
-    let m : is_marked cat marks (at / 16) (field_at table at) ≡ false = rw z in
-    rw (m, and-false (counts cat (field_at table at)))
-
--- the last byte of an integer
-
-pub last-is : (i left n : ℕ) → i + left ≡ n → eqb left 1 ≡ eqb (suc i) n
-last-is i left n e = go (eqb left 1) (eqb-true left 1) (eqb-false left 1) where
-  go : (p : Bool) → (p ≡ true → left ≡ 1) → (p ≡ false → left ≡ 1 → ⊥) → p ≡ eqb (suc i) n
-  go true is isn't = let z = is refl in sym (eq-eqb (suc i) n (omega arith))
-  go false is isn't = sym (ne_eqb (suc i) n (λ q. isn't refl (omega arith)))

@@ -23,8 +23,8 @@ use Rattle.step.specs.declared.Step.{Step}
 use Rattle.plan_rules.specs.Rule.{Want, step_of}
 use Rattle.coalesce.specs.Joins.{joins, joined, join_from, join_all}
 use Rattle.steps.specs.Steps.{before, steps_of, offset_of_want, in_target_order, planned_steps}
-use Rattle.plan_rules.specs.declared.Carried.{Carried}
-use Rattle.plan_rules.specs.declared.Carried.TheVariants.{By, Default}
+use Rattle.std.specs.declared.option.Option.{Option}
+use Rattle.std.specs.Prelude.{Some, None}
 use Rattle.rule.specs.Body.{defs}
 use Rattle.rule.proofs.Stores.{first_of, of-first}
 use Rattle.rule.proofs.Cuts.{joins-are}
@@ -85,11 +85,11 @@ placed cat header size f = (not (counts cat f) || leb header f.offset) && leb (e
 step_counts : (cat : List ℕ) (haves : List FieldDef) (w : Want) → If (λ s. counts cat w.def ≡ true) (step_of cat haves w)
 unfolding step_of
 step_counts cat haves w = go (counts cat w.def) _ where
-  anything : (c : Carried) → If (λ s. ◌≡◌ {A = Bool} true true) c
-  anything Default = tt
-  anything (By s) = refl
+  anything : (c : Option Step) → If (λ s. ◌≡◌ {A = Bool} true true) c
+  anything None = tt
+  anything (Some s) = refl
 
-  go : (b : Bool) (c : Carried) → If (λ s. b ≡ true) (cond b c Default)
+  go : (b : Bool) (c : Option Step) → If (λ s. b ≡ true) (cond b c None)
   go true c = anything c
   go false c = tt
 
@@ -108,12 +108,12 @@ module _ (cat : List ℕ) (valid : catalogue_ok cat ≡ true) (haves : List Fiel
       (leb-true _ _ x.0) (leb-true _ _ q.1) (λ e. leb-true _ _ (rw e at q.0))
       (λ next k. ordered next (end_of w.def) ws k x.1 y.1 z.1)
     where
-      go : (c : Carried) → If (Within w.def) c → If (λ s. step_ok s ≡ true) c → If (λ s. counts cat w.def ≡ true) c → from ≤ w.def.offset → end_of w.def ≤ size
+      go : (c : Option Step) → If (Within w.def) c → If (λ s. step_ok s ≡ true) c → If (λ s. counts cat w.def ≡ true) c → from ≤ w.def.offset → end_of w.def ≤ size
           → (counts cat w.def ≡ true → header ≤ w.def.offset)
           → ((next : ℕ) → next ≤ max (end_of w.def) header → steps_ok next size (steps_of cat haves ws) ≡ true)
           → steps_ok low size (before c (steps_of cat haves ws)) ≡ true
-      go Default x y n u v t ih = ih low (omega arith)
-      go (By s) x y n u v t ih =
+      go None x y n u v t ih = ih low (omega arith)
+      go (Some s) x y n u v t ih =
           let k : header ≤ w.def.offset = t n in
           of-first low size s (steps_of cat haves ws) (record { ok = y; from = omega arith; to = omega arith; rest = ih (step_end s) (omega arith) })
 
@@ -187,9 +187,9 @@ steps-length : (cat : List ℕ) (haves : List FieldDef) (ws : List Want) → len
 unfolding steps_of
 steps-length cat haves [] = omega arith
 steps-length cat haves (w ∷ ws) = go (step_of cat haves w) (steps-length cat haves ws) where
-  go : (c : Carried) → length (steps_of cat haves ws) ≤ length ws → length (before c (steps_of cat haves ws)) ≤ suc (length ws)
-  go Default h = omega arith
-  go (By s) h = omega arith
+  go : (c : Option Step) → length (steps_of cat haves ws) ≤ length ws → length (before c (steps_of cat haves ws)) ≤ suc (length ws)
+  go None h = omega arith
+  go (Some s) h = omega arith
 
 -- ---- the planner's
 

@@ -17,21 +17,20 @@ use Rattle.slot.specs.Slot.{size_in, plan_in, slot_ok}
 use Rattle.slot.proofs.Kept.{kept_slot}
 use Rattle.plan_rules.specs.Rule.{wants}
 use Rattle.interpreter.specs.Run.{upgraded}
-use Rattle.dispatch.specs.Dispatch.{bad_length, record_in, planned_of, applied_of, after_apply, slot_at, first_plan, upgraded_of, after_upgrade}
+use Rattle.std.specs.Prelude.{Result, Err, Some}
+use Rattle.dispatch.specs.Dispatch.{done, bad_length, record_in, planned_of, applied_of, after_apply, slot_at, first_plan, upgraded_of, after_upgrade}
 use Rattle.dispatch.specs.declared.Upgraded.{Upgraded}
-use Rattle.dispatch.specs.declared.Upgraded.TheVariants.{Done, Refused}
-use Rattle.dispatch.specs.declared.choice.Choice.TheVariants.{Slot}
 use Rattle.rule.specs.Body.{rule_body}
 use Rattle.demand.specs.Demand.{Planned}
 use Rattle.demand.proofs.Upgraded.{upgraded-by-rule}
 use Rattle.demand.specs.Holds.{Holds}
 
 -- an answer that is no refusal: the test before it did not refuse
-passed : (t : Bool) (refusal : Refusal) (rest : Upgraded) {rtype size : ℕ} → cond t (Refused refusal) rest ≡ Done rtype size → (t ≡ false) × (rest ≡ Done rtype size)
+passed : (t : Bool) (refusal : Refusal) (rest : Result Upgraded Refusal) {rtype size : ℕ} → cond t (Err refusal) rest ≡ done rtype size → (t ≡ false) × (rest ≡ done rtype size)
 passed true refusal rest e = absurd (let z : ◌≡◌ {A = ℕ} 0 1 = cc in omega arith)
 passed false refusal rest e = (refl, e)
 
-passes : (t : Bool) (refusal : Refusal) (rest : Upgraded) {rtype size : ℕ} → cond t rest (Refused refusal) ≡ Done rtype size → t ≡ true
+passes : (t : Bool) (refusal : Refusal) (rest : Result Upgraded Refusal) {rtype size : ℕ} → cond t rest (Err refusal) ≡ done rtype size → t ≡ true
 passes true refusal rest e = refl
 passes false refusal rest e = absurd (let z : ◌≡◌ {A = ℕ} 0 1 = cc in omega arith)
 
@@ -44,7 +43,7 @@ module _ {cat src_table dst_table marks : List ℕ} {p : Plan} (made : Planned c
   abbrev whole : List ℕ
   whole = take p.header dst ++ (rule_body cat (fields_of src_table) (wants cat marks dst_table) (record_in src stated) p.header p.body ++ drop p.size dst)
 
-  slot-by-rule : (slot : List ℕ) {rtype size : ℕ} → Holds p slot → stated ≤ length src → planned_of slot dst ≡ Done rtype size
+  slot-by-rule : (slot : List ℕ) {rtype size : ℕ} → Holds p slot → stated ≤ length src → planned_of slot dst ≡ done rtype size
       → upgraded (plan_in slot) (record_in src stated) dst ≡ whole
   unfolding planned_of
   slot-by-rule slot h lent e =
@@ -56,7 +55,7 @@ module _ {cat src_table dst_table marks : List ℕ} {p : Plan} (made : Planned c
       upgraded-by-rule made {q = plan_in slot} (record { valid = (kept_slot slot ok).valid; same = h.same; steps = h.steps }) (record_in src stated) dst (omega arith) (omega arith)
 
   -- one plan
-  pub apply-by-rule : (slot : List ℕ) {rtype size : ℕ} → Holds p slot → applied_of slot src stated dst ≡ Done rtype size → after_apply slot src stated dst ≡ whole
+  pub apply-by-rule : (slot : List ℕ) {rtype size : ℕ} → Holds p slot → applied_of slot src stated dst ≡ done rtype size → after_apply slot src stated dst ≡ whole
   unfolding applied_of
   apply-by-rule slot h e =
       let a = passed (bad_length src stated) BadLength _ e in
@@ -64,8 +63,8 @@ module _ {cat src_table dst_table marks : List ℕ} {p : Plan} (made : Planned c
       rw e (slot-by-rule slot h lent a.1)
 
   -- the dispatch, where the first plan of the rtype is such a one
-  pub upgrade-by-rule : (plans unplanned : List ℕ) (of src_header dst_header at : ℕ) {rtype size : ℕ} → first_plan plans of ≡ Slot at → Holds p (slot_at plans at)
-      → upgraded_of plans unplanned of src_header dst_header src stated dst ≡ Done rtype size
+  pub upgrade-by-rule : (plans unplanned : List ℕ) (of src_header dst_header at : ℕ) {rtype size : ℕ} → first_plan plans of ≡ Some at → Holds p (slot_at plans at)
+      → upgraded_of plans unplanned of src_header dst_header src stated dst ≡ done rtype size
       → after_upgrade plans unplanned of src_header dst_header src stated dst ≡ whole
   unfolding upgraded_of
   upgrade-by-rule plans unplanned of src_header dst_header at f h e =
@@ -73,5 +72,5 @@ module _ {cat src_table dst_table marks : List ℕ} {p : Plan} (made : Planned c
       let b = passed (bad_length src stated || ltb stated src_header) BadLength _ a.1 in
       let c = or-none (bad_length src stated) (ltb stated src_header) b.0 in
       let lent : stated ≤ length src = ltb-false _ _ (or-none (ltb (length src) stated) (ltb max_bytes stated) c.0).0 in
-      let d : planned_of (slot_at plans at) dst ≡ Done _ _ = rw f at b.1 in
+      let d : planned_of (slot_at plans at) dst ≡ done _ _ = rw f at b.1 in
       rw (e, f) (slot-by-rule (slot_at plans at) h lent d)

@@ -19,7 +19,7 @@ use Rattle.step.specs.Step.{copy, int, source_of, takes, gives, step_ok, widths_
 use Rattle.step.specs.declared.Step.{Step}
 use Rattle.slot.specs.Plan.{Plan}
 use Rattle.plan_rules.specs.Rule.{Want, wants, step_of}
-use Rattle.plan_rules.specs.declared.Carried.TheVariants.{By}
+use Rattle.std.specs.Prelude.{Some}
 use Rattle.mapping.specs.Mapping.{integer_of, mapped, map_int}
 use Rattle.interpreter.specs.Run.{carried, upgraded}
 use Rattle.rule.specs.Body.{rule_byte, rule_body, value_of}
@@ -119,7 +119,7 @@ module _ {cat src_table dst_table marks : List ℕ} {p : Plan} (made : Planned c
         value-at cat (fields_of src_table) (wants cat marks dst_table) w src (upgraded q src dst) default (targets-apart made) one (omega (arith, long-enough, place.high)) default-length each
 
     -- a field's own step that the record reaches: what it carries stands at the front of the field
-    module _ (s : Step) (by : step_of cat (fields_of src_table) w ≡ By s) (reached : source_of s + takes s ≤ length src) where
+    module _ (s : Step) (by : step_of cat (fields_of src_table) w ≡ Some s) (reached : source_of s + takes s ≤ length src) where
       value_there : window (upgraded q src dst) w.def.offset w.def.size ≡ carried src s.op ++ drop (gives s) default
       unfolding default
       value_there = field-by-rule ∙ rw (by, le-leb (source_of s + takes s) (length src) reached)
@@ -134,12 +134,12 @@ module _ {cat src_table dst_table marks : List ℕ} {p : Plan} (made : Planned c
           ∙ number-front (carried src s.op) (drop (gives s) default) 0 (gives s) (omega (arith, length-carried src s reached))
 
     -- a copy: the field holds the number that the source field holds
-    pub copied-number : (source target n : ℕ) → step_of cat (fields_of src_table) w ≡ By (copy source target n) → source + n ≤ length src
+    pub copied-number : (source target n : ℕ) → step_of cat (fields_of src_table) w ≡ Some (copy source target n) → source + n ≤ length src
         → number_at (upgraded q src dst) w.def.offset n ≡ number_at src source n
     copied-number source target n by reached = number-there (copy source target n) by reached ∙ number-window src source n n (omega arith)
 
     -- an integer step: it holds the integer that the mapping gives of the one that the source field holds
-    module _ (source target from to : ℕ) (signed marked : Bool) (by : step_of cat (fields_of src_table) w ≡ By (int source target from to signed marked)) (reached : source + from ≤ length src) where
+    module _ (source target from to : ℕ) (signed marked : Bool) (by : step_of cat (fields_of src_table) w ≡ Some (int source target from to signed marked)) (reached : source + from ≤ length src) where
       width : is_width to ≡ true
       width =
           let all = ap (every _) (fields-are cat marks dst_table) ∙ all-admitted cat dst_table made.target in

@@ -7,6 +7,9 @@ use mathlib.Core.List.Memᴰ
 use mathlib.Core.List.{List, [], ◌∷◌}
 use borrow.Author.Tests.{ltb-true, lt-ltb}
 use lib.Dec.{ltb}
+use Rattle.std.specs.Prelude.{Result, Ok, Err}
+use Rattle.limits.specs.declared.refusal.Failure.{Failure}
+use Rattle.limits.specs.declared.refusal.Failure.TheVariants.{NoRecord, Refused}
 use Rattle.limits.specs.declared.refusal.Refusal.{Refusal}
 use Rattle.limits.specs.declared.refusal.Refusal.TheVariants.{BadHeader, BadDefaults}
 use Rattle.lent.specs.Bytes.{Bytes, number_at}
@@ -15,9 +18,7 @@ use Rattle.field.specs.Field.{fields_of}
 use Rattle.layout.specs.Layout.{RecordLayout, record_at, record_head, record_of, count_of}
 use Rattle.record_size.specs.Size.{record_size}
 use Rattle.field.specs.declared.Holder.TheVariants.{Record}
-use Rattle.admission_rules.specs.Admission.{admit_both, or_refused}
-use Rattle.admission_rules.specs.declared.Admitted.{Admitted}
-use Rattle.admission_rules.specs.declared.Admitted.TheVariants.{Fine, Refused as Unadmitted}
+use Rattle.admission_rules.specs.Admission.{admit_both, unless, or_refused, failed}
 use Rattle.admission_rules.proofs.When.{admitted}
 use Rattle.step.specs.declared.Step.{Step}
 use Rattle.slot.specs.Plan.{Plan, rtypes_ok}
@@ -25,9 +26,7 @@ use Rattle.slot.specs.Slot.{slot_of}
 use Rattle.slot.proofs.Unpacked.{plan-in}
 use Rattle.plan_rules.specs.Rule.{wants}
 use Rattle.defaults.specs.Defaults.{header_ok, defaults_ok}
-use Rattle.planner.specs.Planner.{plan_between, unless, between_of, planned_of}
-use Rattle.planner.specs.declared.Planned.{Planned as Answer}
-use Rattle.planner.specs.declared.Planned.TheVariants.{Made, NoRecord, Refused}
+use Rattle.planner.specs.Planner.{plan_between, between_of, planned_of}
 use Rattle.planner.proofs.Passing.{header-fits, body-fits}
 use Rattle.rule.specs.Recut.{same}
 use Rattle.demand.specs.Demand.{Planned, with_steps}
@@ -36,17 +35,17 @@ use Rattle.demand.proofs.Upgraded.{planned-valid}
 use Rattle.demand.specs.Holds.{Holds}
 
 -- an answer that is no refusal: every test before it passed
-made_by : (t : Bool) (refusal : Refusal) (rest : Answer) → unless t refusal rest ≡ Made → (t ≡ true) × (rest ≡ Made)
+made_by : (t : Bool) (refusal : Refusal) (rest : Result (Unit {0}) Failure) → unless t (Refused refusal) rest ≡ Ok tt → (t ≡ true) × (rest ≡ Ok tt)
 made_by true refusal rest e = (refl, e)
 made_by false refusal rest e = absurd (let z : ◌≡◌ {A = ℕ} 0 1 = cc in omega arith)
 
-made-there : (t : Bool) (rest : Answer) → cond t rest NoRecord ≡ Made → (t ≡ true) × (rest ≡ Made)
+made-there : (t : Bool) (rest : Result (Unit {0}) Failure) → cond t rest (Err NoRecord) ≡ Ok tt → (t ≡ true) × (rest ≡ Ok tt)
 made-there true rest e = (refl, e)
 made-there false rest e = absurd (let z : ◌≡◌ {A = ℕ} 0 1 = cc in omega arith)
 
-made-admitted : (a : Admitted) (rest : Answer) → or_refused Refused a rest ≡ Made → (a ≡ Fine) × (rest ≡ Made)
-made-admitted Fine rest e = (refl, e)
-made-admitted (Unadmitted refusal) rest e = absurd (let z : ◌≡◌ {A = ℕ} 0 1 = cc in omega arith)
+made-admitted : (a : Result (Unit {0}) Refusal) (rest : Result (Unit {0}) Failure) → or_refused failed a rest ≡ Ok tt → (a ≡ Ok tt) × (rest ≡ Ok tt)
+made-admitted (Ok done) rest e = (refl, e)
+made-admitted (Err refusal) rest e = absurd (let z : ◌≡◌ {A = ℕ} 0 1 = cc in omega arith)
 
 two_bytes : (l : List ℕ) (h : ℕ) → Bytes l → ltb (record_at l h).rtype 65536 ≡ true
 unfolding record_at
@@ -63,7 +62,7 @@ module _ (cat source : List ℕ) (k : ℕ) (target : List ℕ) (to header : ℕ)
   abbrev pub plan_made : Plan
   plan_made = plan_between cat have want header body marks
 
-  pub made-planned : (room : ℕ) → Bytes source → Bytes target → Bytes body → planned_of cat source k target to header body marks room ≡ Made
+  pub made-planned : (room : ℕ) → Bytes source → Bytes target → Bytes body → planned_of cat source k target to header body marks room ≡ Ok tt
       → Planned cat have.table want.table marks plan_made
   unfolding planned_of between_of plan_between
   made-planned room bs bt bb e =

@@ -16,7 +16,7 @@ use Rattle.step.specs.Step.{copy}
 use Rattle.slot.specs.Plan.{Plan}
 use Rattle.field.specs.Pair.{same_kind}
 use Rattle.plan_rules.specs.Rule.{Want, same_id, wants, step_for, step_of}
-use Rattle.plan_rules.specs.declared.Carried.TheVariants.{By, Default}
+use Rattle.std.specs.Prelude.{Some, None}
 use Rattle.interpreter.specs.Run.{upgraded}
 use Rattle.rule.proofs.Values.{every-at}
 use Rattle.demand.specs.Demand.{Planned, Recuts, Sequence, first_for}
@@ -48,10 +48,10 @@ first_passes test good x (y ∷ ys) g e =
 
 -- two fields of one kind: a copy
 kept : (cat : List ℕ) (haves : List FieldDef) (w : Want) (have : FieldDef) → counts cat w.def ≡ true → first_for haves w.def ≡ some have → same_kind cat have w.def ≡ true
-    → step_of cat haves w ≡ By (copy have.offset w.def.offset w.def.size)
+    → step_of cat haves w ≡ Some (copy have.offset w.def.offset w.def.size)
 unfolding step_of step_for
 kept cat haves w have here first_one kind =
-    rw (here, first_gives (same_id w.def) have (λ f. step_for cat f w.def w.marked) Default haves first_one, kind)
+    rw (here, first_gives (same_id w.def) have (λ f. step_for cat f w.def w.marked) None haves first_one, kind)
 
 module _ {cat src_table dst_table marks : List ℕ} {p : Plan} (made : Planned cat src_table dst_table marks p) {q : Plan} (recut : Recuts p q)
     (src dst : List ℕ) (long : p.src_base ≤ length src) (room : p.size ≤ length dst) where
@@ -67,6 +67,6 @@ module _ {cat src_table dst_table marks : List ℕ} {p : Plan} (made : Planned c
       let integer : is_integer cat have ≡ true = rw from.class in
       let kind : same_kind cat have want ≡ true =
       of-one-kind cat made.catalogue have want h t integer (from.class ∙ sym to.class) from.single to.single (eq-eqb _ _ (ap byte_of scale)) (from.wide ∙ sym to.wide) in
-      let by : step_of cat (fields_of src_table) w ≡ By (copy have.offset want.offset 8) =
-      kept cat (fields_of src_table) w have here first_one kind ∙ ap (λ (n : ℕ). By (copy have.offset want.offset n)) to.wide in
+      let by : step_of cat (fields_of src_table) w ≡ Some (copy have.offset want.offset 8) =
+      kept cat (fields_of src_table) w have here first_one kind ∙ ap (λ (n : ℕ). Some (copy have.offset want.offset n)) to.wide in
       copied-number made recut src dst long room w one here have.offset want.offset 8 by (omega (arith, from.wide))

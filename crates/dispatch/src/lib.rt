@@ -11,15 +11,15 @@ ghost use Rattle.slot.specs.Slot.{plan_in};
 ghost use Rattle.interpreter.specs.Run.{upgraded};
 ghost use Rattle.dispatch.specs.Dispatch.{bad_length, after, planned_of, applied_of, after_apply, bare_of, upgraded_of, after_upgrade};
 
-use choice::Choice;
 use limits::refusal::Refusal;
 use slot::check;
+use slot::valid::ValidPlan;
 
-#[derive(Clone, Copy)]
-pub enum Upgraded {
-    // The target's rtype, and the upgraded record's size.
-    Done(u16, usize),
-    Refused(Refusal),
+// The target's rtype, and the upgraded record's size.
+#[derive(Clone, Copy, Debug, PartialEq, Eq)]
+pub struct Upgraded {
+    pub rtype: u16,
+    pub size: usize,
 }
 
 fn bad_length(src: &[u8], stated: usize) -> bool
@@ -29,30 +29,33 @@ fn bad_length(src: &[u8], stated: usize) -> bool
 }
 
 // Refusals 11 and 16, then the plan's steps.
-fn planned(slot: &[u8], src: &[u8], dst: &mut [u8]) -> Upgraded
+fn planned(slot: &[u8], src: &[u8], dst: &mut [u8]) -> Result<Upgraded, Refusal>
     ensures answer { result ≡ planned_of slot.now dst.old }
     ensures target { dst.new ≡ after (planned_of slot.now dst.old) (upgraded (plan_in slot.now) src.now dst.old) dst.old }
 {
     let size = check::number_at(slot, 10);
     if dst.len() < size {
-        return Upgraded::Refused(Refusal::NoRoom);
+        return Err(Refusal::NoRoom);
     }
     // all of the slot, as a slice made here: one handed on would be waited for
     let n = slot.len();
-    if !check::is_ok(&slot[..n]) {
-        return Upgraded::Refused(Refusal::BadPlan);
-    }
-    interpreter::apply(slot, src, dst);
-    Upgraded::Done(lent::u16_at(slot, 2), size)
+    let Some(plan) = ValidPlan::of(&slot[..n]) else {
+        return Err(Refusal::BadPlan);
+    };
+    interpreter::apply(plan, src, dst);
+    Ok(Upgraded {
+        rtype: lent::u16_at(slot, 2),
+        size,
+    })
 }
 
 // UpgradePlan::apply on the first bytes of src, as many as are stated.
-pub fn apply(slot: &[u8], src: &[u8], stated: usize, dst: &mut [u8]) -> Upgraded
+pub fn apply(slot: &[u8], src: &[u8], stated: usize, dst: &mut [u8]) -> Result<Upgraded, Refusal>
     ensures answer { result ≡ applied_of slot.now src.now stated dst.old }
     ensures target { dst.new ≡ after_apply slot.now src.now stated dst.old }
 {
     if bad_length(src, stated) {
-        return Upgraded::Refused(Refusal::BadLength);
+        return Err(Refusal::BadLength);
     }
     planned(slot, lent::window(src, 0, stated), dst)
 }
@@ -65,21 +68,21 @@ fn bare(
     dst_header: usize,
     src: &[u8],
     dst: &mut [u8],
-) -> Upgraded
+) -> Result<Upgraded, Refusal>
     requires { (src_header ≤ length src.now) × (length src.now ≤ max_bytes) × (dst_header ≤ max_header) }
     ensures answer { result ≡ bare_of unplanned.now rtype src_header dst_header (length src.now) dst.old }
     ensures target { dst.new ≡ after (bare_of unplanned.now rtype src_header dst_header (length src.now) dst.old) (sets dst.old dst_header (window src.now src_header (length src.now - src_header))) dst.old }
 {
     if choice::is_listed(unplanned, rtype) {
-        return Upgraded::Refused(Refusal::Unplanned);
+        return Err(Refusal::Unplanned);
     }
     let n = src.len() - src_header;
     let size = dst_header + n;
     if dst.len() < size {
-        return Upgraded::Refused(Refusal::NoRoom);
+        return Err(Refusal::NoRoom);
     }
     lent::store::copy(src, src_header, dst, dst_header, n);
-    Upgraded::Done(rtype, size)
+    Ok(Upgraded { rtype, size })
 }
 
 // Upgrader::upgrade: the first plan of the rtype, of a run of slots.
@@ -92,19 +95,19 @@ pub fn upgrade(
     src: &[u8],
     stated: usize,
     dst: &mut [u8],
-) -> Upgraded
+) -> Result<Upgraded, Refusal>
     ensures answer { result ≡ upgraded_of plans.now unplanned.now rtype src_header dst_header src.now stated dst.old }
     ensures target { dst.new ≡ after_upgrade plans.now unplanned.now rtype src_header dst_header src.now stated dst.old }
 {
     if (limits::MAX_HEADER < src_header) | (limits::MAX_HEADER < dst_header) {
-        return Upgraded::Refused(Refusal::BadHeader);
+        return Err(Refusal::BadHeader);
     }
     if bad_length(src, stated) | (stated < src_header) {
-        return Upgraded::Refused(Refusal::BadLength);
+        return Err(Refusal::BadLength);
     }
     let record = lent::window(src, 0, stated);
     match choice::first_plan(plans, rtype) {
-        Choice::Slot(at) => planned(lent::window(plans, at, slot::SIZE), record, dst),
-        Choice::NoPlan => bare(unplanned, rtype, src_header, dst_header, record, dst),
+        Some(at) => planned(lent::window(plans, at, slot::SIZE), record, dst),
+        None => bare(unplanned, rtype, src_header, dst_header, record, dst),
     }
 }

@@ -1,3 +1,4 @@
+pub mod Behind
 pub mod Kept
 pub mod Mapped
 pub mod Placed

@@ -3,6 +3,7 @@
 
 pub mod order;
 pub mod pair;
+pub mod rows;
 
 ghost use Rattle.std.specs.Prelude.{◌≡◌, ◌+◌, ◌*◌, ◌<◌, ◌≤◌, length};
 ghost use Rattle.lent.specs.Bytes.{number_at};

@@ -3,28 +3,28 @@
 
 ghost use Rattle.std.specs.Prelude.{◌≡◌};
 ghost use Rattle.lent.specs.Bytes.{bytes_of};
-ghost use Rattle.crc64.specs.Sum.{digit_table, bytes_step};
+ghost use Rattle.crc64.specs.Sum.{bytes_step};
 ghost use Rattle.hash_rules.specs.Walk.{names_struct};
 ghost use Rattle.hash_rules.specs.Parts.{visit_of, Near};
 
 use crc64::digitwise;
 use field::FieldDef;
 use layout::block;
+use layout::block::Head;
 use limits::refusal::Refusal;
 
-#[derive(Clone, Copy)]
-pub enum Hashed {
-    // The sum and the visits used.
-    Sum(u64, usize),
-    Refused(Refusal),
+// Where a walk stands: the sum, and how many fields were visited.
+#[derive(Clone, Copy, Debug, PartialEq, Eq)]
+pub struct Walked {
+    pub fp: u64,
+    pub visits: usize,
 }
 
-// What a field asks for: the walk goes on, or enters the struct whose head is named, or the budget is used up.
-#[derive(Clone, Copy)]
+// What a field asks for: the walk goes on, or enters the struct at a head.
+#[derive(Clone, Copy, Debug, PartialEq, Eq)]
 pub enum Visit {
-    On(u64, usize),
-    Enter(u64, usize, usize),
-    Over,
+    On(Walked),
+    Enter(Walked, Head),
 }
 
 fn names_struct(cat: &[u8], l: &[u8], f: FieldDef) -> bool
@@ -34,34 +34,36 @@ fn names_struct(cat: &[u8], l: &[u8], f: FieldDef) -> bool
 }
 
 // A struct's size, which goes in before its fields: two bytes.
-fn size_sum(t: &[u64; 160], start: u64, size: usize) -> u64
-    requires { t.now ≡ digit_table }
+fn size_sum(start: u64, size: usize) -> u64
     ensures { result ≡ bytes_step start (bytes_of 2 size) }
 {
-    digitwise::step_number(t, start, (size % 65536) as u64, 2)
+    digitwise::step_number(start, (size % 65536) as u64, 2)
 }
 
-// All of a field's walk that does not enter anything.
-pub fn visited(
-    cat: &[u8],
-    l: &[u8],
-    t: &[u64; 160],
-    budget: usize,
-    f: FieldDef,
-    fp: u64,
-    visits: usize,
-) -> Visit
-    requires { t.now ≡ digit_table }
-    ensures { (result ≡ visit_of cat.now l.now budget f fp visits) × Near result }
-{
-    if budget <= visits {
-        return Visit::Over;
+// What a walk reads, and how many fields it may visit.
+#[derive(Clone, Copy)]
+pub struct Walk<'a> {
+    pub cat: &'a [u8],
+    pub layout: &'a [u8],
+    pub budget: usize,
+}
+
+impl<'a> Walk<'a> {
+    // All of a field's walk that does not enter anything.
+    pub fn visited(&self, f: FieldDef, so_far: Walked) -> Result<Visit, Refusal>
+        ensures visit { result ≡ visit_of self.now.cat.now self.now.layout.now self.now.budget f so_far.fp so_far.visits }
+        ensures near { Near result }
+    {
+        if self.budget <= so_far.visits {
+            return Err(Refusal::OverBudget);
+        }
+        let fp = feed::field_sum(so_far.fp, f);
+        let visits = so_far.visits + 1;
+        if !names_struct(self.cat, self.layout, f) {
+            return Ok(Visit::On(Walked { fp, visits }));
+        }
+        let head = block::struct_head(self.layout, f.def_index);
+        let fp = size_sum(fp, block::struct_size(self.layout, head));
+        Ok(Visit::Enter(Walked { fp, visits }, head))
     }
-    let sum = feed::field_sum(t, fp, f);
-    if !names_struct(cat, l, f) {
-        return Visit::On(sum, visits + 1);
-    }
-    let head = block::struct_head(l, f.def_index);
-    let size = block::struct_size(l, head);
-    Visit::Enter(size_sum(t, sum, size), visits + 1, head)
 }

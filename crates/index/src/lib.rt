@@ -1,49 +1,47 @@
 // The lookups of dbn's index.rs: scans, no table is built.
 #![tactic(auto)]
 
-ghost use Rattle.std.specs.Prelude.{◌≡◌, ◌+◌, ◌<◌, eqb, cond};
+ghost use Rattle.std.specs.Prelude.{◌≡◌, ◌&&◌, not, eqb, Some};
 ghost use Rattle.lent.specs.Scan.{last, alike};
-ghost use Rattle.field.specs.Field.{fields_of};
+ghost use Rattle.field.specs.Field.{fields_of, is_padding};
 ghost use Rattle.layout.specs.Layout.{name_at, record_at};
 ghost use Rattle.index_rules.specs.Index.{fields_if_of, has_id, by_id, name_in, by_name};
 
+use field::rows::rows_of;
 use field::{FieldDef, Holder};
-use index_rules::Lookup;
-use layout::find::Place;
+use layout::block::Head;
 use layout::{block, find};
 
-// The field if it has the id and isn't padding, else what was found before.
-fn here_or(cat: &[u8], f: FieldDef, id: u16, before: Lookup) -> Lookup
-    ensures { result ≡ cond (has_id cat.now id f) (Lookup.Def f) before }
+// A field with the id that isn't padding.
+fn has_id(cat: &[u8], f: FieldDef, id: u16) -> bool
+    ensures { result ≡ has_id cat.now id f }
 {
-    if f.field_id != id {
-        return before;
-    }
-    if field::is_padding(cat, f) {
-        return before;
-    }
-    Lookup::Def(f)
+    f.field_id == id && !field::is_padding(cat, f)
 }
 
-// The last field of a table with the id that isn't padding, else what was found before.
-fn last_in(cat: &[u8], t: &[u8], id: u16, before: Lookup) -> Lookup
-    ensures { result ≡ last (has_id cat.now id) Lookup.Def before (fields_of t.now) }
+// The last such field of a table, else what was found before.
+fn last_in(cat: &[u8], t: &[u8], id: u16, before: Option<FieldDef>) -> Option<FieldDef>
+    ensures { result ≡ last (has_id cat.now id) Some before (fields_of t.now) }
 {
     let mut found = before;
-    let mut at = 0;
-    let mut left = t.len() / field::SIZE;
-    while left != 0 {
-        found = here_or(cat, field::field_in(t, at), id, found);
-        at += field::SIZE;
-        left -= 1;
+    for f in rows_of(t) {
+        if has_id(cat, f, id) {
+            found = Some(f);
+        }
     }
     found
 }
 
-// The same of the record whose head begins at h, if it is of the rtype.
-fn last_of_record(cat: &[u8], l: &[u8], h: usize, rtype: u16, id: u16, before: Lookup) -> Lookup
-    requires { h < 4000000000 }
-    ensures { result ≡ last (has_id cat.now id) Lookup.Def before (fields_if_of rtype (record_at l.now h)) }
+// The same of the record whose head is h, if it is of the rtype.
+fn last_of_record(
+    cat: &[u8],
+    l: &[u8],
+    h: Head,
+    rtype: u16,
+    id: u16,
+    before: Option<FieldDef>,
+) -> Option<FieldDef>
+    ensures { result ≡ last (has_id cat.now id) Some before (fields_if_of rtype (record_at l.now h)) }
 {
     if find::is_of(l, rtype, h) {
         return last_in(cat, block::table_at(Holder::Record, l, h), id, before);
@@ -51,63 +49,41 @@ fn last_of_record(cat: &[u8], l: &[u8], h: usize, rtype: u16, id: u16, before: L
     before
 }
 
-pub fn field_by_id(cat: &[u8], l: &[u8], rtype: u16, id: u16) -> Lookup
+pub fn field_by_id(cat: &[u8], l: &[u8], rtype: u16, id: u16) -> Option<FieldDef>
     ensures { result ≡ by_id cat.now l.now rtype id }
 {
-    let mut found = Lookup::Missing;
-    let mut at = block::heads_from(Holder::Record, l);
-    let mut left = block::count_of(Holder::Record, l);
-    while left != 0 {
-        found = last_of_record(cat, l, at, rtype, id, found);
-        at += block::RECORD_HEAD;
-        left -= 1;
+    let mut found = None;
+    for h in block::heads_of(Holder::Record, l) {
+        found = last_of_record(cat, l, h, rtype, id, found);
     }
     found
 }
 
-// Is that the name in the slot at `at`?
-fn name_is(l: &[u8], at: usize, name: &[u8]) -> bool
-    requires { at < 200000000000 }
-    ensures { result ≡ alike eqb (name_at l.now at) name.now }
+// A field with that name that isn't padding.
+fn has_name(cat: &[u8], f: FieldDef, name: &[u8], wanted: &[u8]) -> bool
+    ensures { result ≡ (alike eqb name.now wanted.now && not (is_padding cat.now f)) }
 {
-    let n = lent::wide8(lent::byte_at(l, at));
-    lent::same(lent::window(l, at + 1, n), name)
+    lent::same(name, wanted) && !field::is_padding(cat, f)
 }
 
-// The first field with the name, that isn't padding, of the record whose head begins at h.
-fn name_in(cat: &[u8], l: &[u8], h: usize, name: &[u8]) -> Lookup
-    requires { h < 4000000000 }
-    ensures { result ≡ name_in cat.now name.now (record_at l.now h) }
+// The first field with the name, that isn't padding, of the record whose head is h.
+fn name_in(cat: &[u8], l: &[u8], h: Head, wanted: &[u8]) -> Option<FieldDef>
+    ensures { result ≡ name_in cat.now wanted.now (record_at l.now h) }
 {
-    let t = block::table_at(Holder::Record, l, h);
-    let mut slot = block::names_from(l, h);
-    let mut names = block::names_count(l, h);
-    let mut at = 0;
-    let mut left = t.len() / field::SIZE;
-    while left != 0 {
-        if names == 0 {
-            return Lookup::Missing;
+    let mut names = block::names_of(l, h);
+    for f in rows_of(block::table_at(Holder::Record, l, h)) {
+        let name = names.next()?;
+        if has_name(cat, f, name, wanted) {
+            return Some(f);
         }
-        let f = field::field_in(t, at);
-        if name_is(l, slot, name) & !field::is_padding(cat, f) {
-            return Lookup::Def(f);
-        }
-        slot += block::NAME;
-        names -= 1;
-        at += field::SIZE;
-        left -= 1;
     }
-    Lookup::Missing
+    None
 }
 
-pub fn field_by_name(cat: &[u8], l: &[u8], rtype: u16, name: &[u8]) -> Lookup
+pub fn field_by_name(cat: &[u8], l: &[u8], rtype: u16, name: &[u8]) -> Option<FieldDef>
     ensures { result ≡ by_name cat.now l.now rtype name.now }
 {
-    match find::first_of(l, rtype) {
-        Place::Nowhere => Lookup::Missing,
-        Place::At(h) => match name_in(cat, l, h, name) {
-            Lookup::Missing => Lookup::Missing,
-            Lookup::Def(f) => field_by_id(cat, l, rtype, f.field_id),
-        },
-    }
+    let h = find::first_of(l, rtype)?;
+    let named = name_in(cat, l, h, name)?;
+    field_by_id(cat, l, rtype, named.field_id)
 }

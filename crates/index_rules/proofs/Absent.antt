@@ -1,4 +1,5 @@
 -- A lookup by id that answers none: no record of the rtype has a field of that id that isn't padding. Assumes nothing.
+use Rattle.std.specs.Prelude.{None, Option, Some}
 use mathlib.Core.Path.{◌≡◌, refl}
 use mathlib.Core.Bool.{Bool, true, false, cond, not}
 use mathlib.Core.List.{List, [], ◌∷◌, ◌++◌}
@@ -9,20 +10,18 @@ use Rattle.lent.proofs.Scan.{both}
 use Rattle.field.specs.declared.FieldDef.{FieldDef}
 use Rattle.layout.specs.Layout.{RecordLayout, records}
 use Rattle.index_rules.specs.Index.{fields_if_of, fields_of_rtype, has_id, by_id}
-use Rattle.index_rules.specs.declared.Lookup.{Lookup}
-use Rattle.index_rules.specs.declared.Lookup.TheVariants.{Def, Missing}
 
 module _ (test : FieldDef → Bool) where
-  chosen : (p : Bool) (f : FieldDef) (before : Lookup) → cond p (Def f) before ≡ Missing → (not p ≡ true) × (before ≡ Missing)
+  chosen : (p : Bool) (f : FieldDef) (before : Option FieldDef) → cond p (Some f) before ≡ None → (not p ≡ true) × (before ≡ None)
   chosen true f before e = absurd (let z : ◌≡◌ {A = ℕ} 0 1 = cc in omega arith)
   chosen false f before e = (refl, e)
 
-  none_passes : (before : Lookup) (fs : List FieldDef) → last test Def before fs ≡ Missing
-      → (before ≡ Missing) × (every (λ f. not (test f)) fs ≡ true)
+  none_passes : (before : Option FieldDef) (fs : List FieldDef) → last test Some before fs ≡ None
+      → (before ≡ None) × (every (λ f. not (test f)) fs ≡ true)
   unfolding last every
   none_passes before [] e = (e, refl)
   none_passes before (f ∷ fs) e =
-      let ih = none_passes (cond (test f) (Def f) before) fs e in
+      let ih = none_passes (cond (test f) (Some f) before) fs e in
       let z = chosen (test f) f before ih.0 in
       (z.1, rw z.0 ih.1)
 
@@ -42,8 +41,8 @@ module _ (test : FieldDef → Bool) where
       let z = split (fields_if_of rtype r) (fields_of_rtype rtype rs) e in
       rw z.0 (each-record rtype rs z.1)
 
-pub absent : (cat l : List ℕ) (rtype id : ℕ) → by_id cat l rtype id ≡ Missing
+pub absent : (cat l : List ℕ) (rtype id : ℕ) → by_id cat l rtype id ≡ None
     → every (λ r. every (λ f. not (has_id cat id f)) (fields_if_of rtype r)) (records l) ≡ true
 unfolding by_id
 absent cat l rtype id e =
-    each-record (λ f. not (has_id cat id f)) rtype (records l) (none_passes (has_id cat id) Missing (fields_of_rtype rtype (records l)) e).1
+    each-record (λ f. not (has_id cat id f)) rtype (records l) (none_passes (has_id cat id) None (fields_of_rtype rtype (records l)) e).1

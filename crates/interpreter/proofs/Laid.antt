@@ -2,7 +2,7 @@
 use mathlib.Core.Path.{◌≡◌, refl, sym, ap, ◌∙◌}
 use mathlib.Core.Bool.{Bool, true, false, cond, ◌&&◌}
 use mathlib.Core.List.{List, [], ◌∷◌}
-use Prim.Native.Nat.{ℕ, ◌+◌, ◌-◌, ◌≤◌, ◌<◌}
+use Prim.Native.Nat.{ℕ, ◌+◌, ◌-◌, ◌≤◌}
 use native.Mathlib.Omega.{arith}
 use lib.Dec.{leb, eqb}
 use lib.ListN.{length}
@@ -10,21 +10,20 @@ use lib.Seq.{sets}
 use borrow.Author.Tests.{eqb-true, leb-true}
 use Rattle.lent.specs.Bytes.{window}
 use Rattle.lent.proofs.Bytes.{window-length}
-use Rattle.lent.proofs.Scan.{both, turn}
+use Rattle.lent.proofs.Scan.{both}
 use Rattle.lent.proofs.Stored.{window-add, sets_then, sets_over, sets-swap}
 use Rattle.step.specs.Step.{source_of, takes, target_of, gives, end_of, step_ok, within, steps_ok}
-use Rattle.step.specs.Packed.{step_at, steps_at}
 use Rattle.step.specs.declared.Step.{Step}
 use Rattle.interpreter.specs.Run.{carried, reaches, run_step, run, covered_to}
 use Rattle.interpreter.proofs.Runs.{length-carried}
 
--- the first of the steps of a slot decides where the body is laid from
-module _ (slot src : List ℕ) (h at n : ℕ) (s : Step) (some : 0 < n) (es : s ≡ step_at slot at) where
-  pub covers : (eqb (target_of s) h && reaches src s) ≡ true → end_of s ≡ covered_to src h (steps_at slot at n)
-  covers z = rw (turn (step_at slot) 16 at n some, ← es, z)
+-- the first of the steps decides where the body is laid from
+module _ (src : List ℕ) (h : ℕ) {left others : List Step} (s : Step) (e : left ≡ s ∷ others) where
+  pub covers : (eqb (target_of s) h && reaches src s) ≡ true → end_of s ≡ covered_to src h left
+  covers z = rw (e, z)
 
-  pub covers-not : (eqb (target_of s) h && reaches src s) ≡ false → h ≡ covered_to src h (steps_at slot at n)
-  covers-not z = rw (turn (step_at slot) 16 at n some, ← es, z)
+  pub covers-not : (eqb (target_of s) h && reaches src s) ≡ false → h ≡ covered_to src h left
+  covers-not z = rw (e, z)
 
 -- which lies in the record
 step-ends : (h size : ℕ) (s : Step) (ss : List Step) → steps_ok h size (s ∷ ss) ≡ true → (h ≤ target_of s) × (end_of s ≤ size)

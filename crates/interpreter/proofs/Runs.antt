@@ -2,7 +2,7 @@
 use mathlib.Core.Path.{◌≡◌, refl}
 use mathlib.Core.Bool.{Bool, true, not, ◌&&◌, ◌||◌}
 use mathlib.Core.List.{List, [], ◌∷◌}
-use Prim.Native.Nat.{ℕ, ◌+◌, ◌-◌, ◌≤◌, ◌<◌}
+use Prim.Native.Nat.{ℕ, ◌+◌, ◌≤◌, ◌<◌}
 use native.Mathlib.Omega.{arith}
 use lib.Dec.{leb, ltb, eqb}
 use lib.ListN.{length, drop, length-drop}
@@ -11,11 +11,10 @@ use borrow.Author.Tests.{le-leb, lt-leb, leb-true}
 use Rattle.lent.specs.Bytes.{window}
 use Rattle.lent.specs.Scan.{every}
 use Rattle.lent.proofs.Bytes.{length-bytes_of}
-use Rattle.lent.proofs.Scan.{turn, none, both}
+use Rattle.lent.proofs.Scan.{both}
 use Rattle.limits.specs.Limits.{max_bytes}
 use Rattle.catalogue.specs.Catalogue.{is_width}
 use Rattle.step.specs.Step.{source_of, takes, gives, end_of, step_ok, widths_ok, within, steps_ok}
-use Rattle.step.specs.Packed.{step_at, steps_at}
 use Rattle.step.specs.declared.Op.{Op}
 use Rattle.step.specs.declared.Op.TheVariants.{Copy, Int}
 use Rattle.step.specs.declared.Step.{Step}
@@ -57,21 +56,20 @@ length-carried src s h = go s.op h where
   go (Copy source target size) h = length-take-le size (drop source src) (omega (arith, length-drop source src))
   go (Int source target from to signed marked) h = length-bytes_of to _
 
--- ---- a turn over the steps of a slot
-module _ (slot : List ℕ) (at n : ℕ) where
-  pub next_fits : (w : ℕ) → 0 < n → every (fits w) (steps_at slot at n) ≡ true
-      → (fits w (step_at slot at) ≡ true) × (every (fits w) (steps_at slot (at + 16) (n - 1)) ≡ true)
+-- ---- a turn over steps
+module _ {left : List Step} where
+  pub next_fits : (w : ℕ) {s : Step} {others : List Step} → left ≡ s ∷ others → every (fits w) left ≡ true → (fits w s ≡ true) × (every (fits w) others ≡ true)
   unfolding every
-  next_fits w h f = both (fits w (step_at slot at)) (every (fits w) (steps_at slot (at + 16) (n - 1))) (rw (turn (step_at slot) 16 at n h) at f)
+  next_fits w {s = s} {others = others} e f = both (fits w s) (every (fits w) others) (rw e at f)
 
-  module _ (src dst all : List ℕ) (so : run src (steps_at slot at n) dst ≡ all) where
-    pub run-turn : (s : Step) (d : List ℕ) → 0 < n → s ≡ step_at slot at → d ≡ run_step src s dst → run src (steps_at slot (at + 16) (n - 1)) d ≡ all
+  module _ (src dst : List ℕ) {all : List ℕ} (so : run src left dst ≡ all) where
+    pub run-turn : {s : Step} {others : List Step} (d : List ℕ) → left ≡ s ∷ others → d ≡ run_step src s dst → run src others d ≡ all
     unfolding run
-    run-turn s d h es ed = rw (ed, es) (rw (turn (step_at slot) 16 at n h) at so)
+    run-turn d e ed = rw ed (rw e at so)
 
-    pub run_end : n ≡ 0 → dst ≡ all
+    pub run_end : left ≡ [] → dst ≡ all
     unfolding run
-    run_end e = rw (none (step_at slot) 16 at n e) at so
+    run_end e = rw e at so
 
 -- what keeps the rules of a plan fits its record
 pub all_fit : (low high w : ℕ) (ss : List Step) → high ≤ w → steps_ok low high ss ≡ true → every (fits w) ss ≡ true

@@ -5,10 +5,10 @@ ghost use Rattle.std.specs.Prelude.{◌≡◌, true, ◌+◌, ◌≤◌, length}
 ghost use Rattle.std.proofs.lemmas.List.Edits.{sets};
 ghost use Rattle.catalogue.specs.Catalogue.{is_width};
 ghost use Rattle.step.specs.declared.Op.TheVariants.{Int};
-ghost use Rattle.slot.specs.Slot.{header_in, size_in, plan_in, slot_ok};
+ghost use Rattle.slot.specs.Slot.{header_in, size_in, plan_in};
 ghost use Rattle.interpreter.specs.Run.{carried, reaches, fits, run_step, run, upgraded, covered_to, body_after};
 
-use slot::check::number_in;
+use slot::valid::ValidPlan;
 use step::{Op, Step};
 
 // The integer of n bytes at `source`, mapped and stored in m bytes at `target`.
@@ -35,8 +35,7 @@ fn run_step(step: Step, src: &[u8], dst: &mut [u8])
     requires { fits (length dst.old) step ≡ true }
     ensures { dst.new ≡ run_step src.now step dst.old }
 {
-    let op = step.op;
-    match op {
+    match step.op {
         Op::Copy {
             src_offset,
             dst_offset,
@@ -71,55 +70,50 @@ fn run_step(step: Step, src: &[u8], dst: &mut [u8])
 fn reaches(step: Step, src: &[u8]) -> bool
     ensures { result ≡ reaches src.now step }
 {
-    step::source_end(step) <= src.len()
+    step.source_end() <= src.len()
 }
 
 // Where the first step leaves the body to be laid from: bytes below it would be laid in vain.
-fn covered_to(slot: &[u8], src: &[u8]) -> usize
-    requires { slot_ok slot.now ≡ true }
-    ensures { result ≡ covered_to src.now (header_in slot.now) (plan_in slot.now).steps }
+fn covered_to(plan: ValidPlan<'_>, src: &[u8]) -> usize
+    ensures { result ≡ covered_to src.now (header_in plan.entry.bytes.now) (plan_in plan.entry.bytes.now).steps }
 {
-    let header = number_in(slot, 6);
-    if number_in(slot, 12) == 0 {
-        return header;
+    let header = plan.header();
+    match plan.steps().next() {
+        Some(step) => {
+            if (step.target() == header) & reaches(step, src) {
+                return step.end();
+            }
+            header
+        }
+        None => header,
     }
-    let step = step::packed::step_in(slot, slot::STEPS_FROM);
-    if (step::target_of(step) == header) & reaches(step, src) {
-        return step::end_of(step);
-    }
-    header
 }
 
-// The default body of a slot, from a place of the record on.
-pub fn lay_body(slot: &[u8], from: usize, dst: &mut [u8])
-    requires { (slot_ok slot.now ≡ true) × (header_in slot.now ≤ from) × (from ≤ size_in slot.now) × (size_in slot.now ≤ length dst.old) }
-    ensures { dst.new ≡ sets dst.old from (body_after slot.now from) }
+// The default body of a plan, from a place of the record on.
+pub fn lay_body(plan: ValidPlan<'_>, from: usize, dst: &mut [u8])
+    requires { (header_in plan.bytes.now ≤ from) × (from ≤ size_in plan.bytes.now) × (size_in plan.bytes.now ≤ length dst.old) }
+    ensures { dst.new ≡ sets dst.old from (body_after plan.entry.bytes.now from) }
 {
-    let header = number_in(slot, 6);
-    let n = number_in(slot, 10) - from;
-    lent::store::copy(slot, slot::BODY_FROM + (from - header), dst, from, n);
+    let start = slot::BODY_FROM + (from - plan.header());
+    let n = plan.size() - from;
+    lent::store::copy(plan.bytes, start, dst, from, n);
 }
 
-// The steps of a slot, one after the other.
-pub fn run_steps(slot: &[u8], src: &[u8], dst: &mut [u8])
-    requires { (slot_ok slot.now ≡ true) × (size_in slot.now ≤ length dst.old) }
-    ensures { dst.new ≡ run src.now (plan_in slot.now).steps dst.old }
+// The steps of a plan, one after the other.
+pub fn run_steps(plan: ValidPlan<'_>, src: &[u8], dst: &mut [u8])
+    requires { size_in plan.bytes.now ≤ length dst.old }
+    ensures { dst.new ≡ run src.now (plan_in plan.entry.bytes.now).steps dst.old }
 {
-    let mut at = slot::STEPS_FROM;
-    let mut left = number_in(slot, 12);
-    while 0 < left {
-        let step = step::packed::step_in(slot, at);
+    for step in plan.steps() {
         run_step(step, src, dst);
-        at += step::packed::SIZE;
-        left -= 1;
     }
 }
 
 // The default body, then the steps. Bytes of the header, and those past the record size, stay.
-pub fn apply(slot: &[u8], src: &[u8], dst: &mut [u8])
-    requires { (slot_ok slot.now ≡ true) × (size_in slot.now ≤ length dst.old) }
-    ensures { dst.new ≡ upgraded (plan_in slot.now) src.now dst.old }
+pub fn apply(plan: ValidPlan<'_>, src: &[u8], dst: &mut [u8])
+    requires { size_in plan.bytes.now ≤ length dst.old }
+    ensures { dst.new ≡ upgraded (plan_in plan.entry.bytes.now) src.now dst.old }
 {
-    lay_body(slot, covered_to(slot, src), dst);
-    run_steps(slot, src, dst)
+    lay_body(plan, covered_to(plan, src), dst);
+    run_steps(plan, src, dst)
 }

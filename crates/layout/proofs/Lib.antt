@@ -1,1 +1,2 @@
+pub mod Nearby
 pub mod Shapes

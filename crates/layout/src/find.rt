@@ -1,59 +1,39 @@
 // record_layout of dbn's layout.rs: the first record of an rtype; and the last.
-ghost use Rattle.std.specs.Prelude.{◌≡◌, cond, ◌<◌};
+ghost use Rattle.std.specs.Prelude.{◌≡◌, cond, ◌<◌, Some};
 ghost use Rattle.layout.specs.Find.{is_of, first_of, last_of, Near};
 
 use crate::block;
+use crate::block::Head;
 use field::Holder;
 
-// Where a record's head stands.
-#[derive(Clone, Copy)]
-pub enum Place {
-    At(usize),
-    Nowhere,
-}
-
-pub fn is_of(l: &[u8], rtype: u16, h: usize) -> bool
-    requires { h < 4000000000 }
+pub fn is_of(l: &[u8], rtype: u16, h: Head) -> bool
     ensures { result ≡ is_of l.now rtype h }
 {
     block::record_rtype(l, h) == rtype
 }
 
-pub fn first_of(l: &[u8], rtype: u16) -> Place
-    ensures { (result ≡ first_of l.now rtype) × Near result }
+// Where its head stands.
+pub fn first_of(l: &[u8], rtype: u16) -> Option<Head>
+    ensures place { result ≡ first_of l.now rtype }
+    ensures near { Near result }
 {
-    let mut at = block::heads_from(Holder::Record, l);
-    let mut left = block::count_of(Holder::Record, l);
-    while left != 0 {
-        if is_of(l, rtype, at) {
-            return Place::At(at);
+    for h in block::heads_of(Holder::Record, l) {
+        if is_of(l, rtype, h) {
+            return Some(h);
         }
-        at += block::RECORD_HEAD;
-        left -= 1;
     }
-    Place::Nowhere
+    None
 }
 
-fn here_or(l: &[u8], rtype: u16, h: usize, before: Place) -> Place
-    requires { (h < 10000000) × Near before }
-    ensures { (result ≡ cond (is_of l.now rtype h) (Place.At h) before) × Near result }
+pub fn last_of(l: &[u8], rtype: u16) -> Option<Head>
+    ensures place { result ≡ last_of l.now rtype }
+    ensures near { Near result }
 {
-    if is_of(l, rtype, h) {
-        return Place::At(h);
-    }
-    before
-}
-
-pub fn last_of(l: &[u8], rtype: u16) -> Place
-    ensures { (result ≡ last_of l.now rtype) × Near result }
-{
-    let mut found = Place::Nowhere;
-    let mut at = block::heads_from(Holder::Record, l);
-    let mut left = block::count_of(Holder::Record, l);
-    while left != 0 {
-        found = here_or(l, rtype, at, found);
-        at += block::RECORD_HEAD;
-        left -= 1;
+    let mut found = None;
+    for h in block::heads_of(Holder::Record, l) {
+        if is_of(l, rtype, h) {
+            found = Some(h);
+        }
     }
     found
 }

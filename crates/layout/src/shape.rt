@@ -5,6 +5,7 @@ ghost use Rattle.layout.specs.Layout.{heads};
 ghost use Rattle.layout.specs.Shape.{name_ok, part_ok, table_shape, names_match, names_shape, record_shape, struct_shape, head_shape, counts_ok, shape_ok};
 
 use crate::block;
+use crate::block::Head;
 use field::Holder;
 
 fn name_ok(l: &[u8], at: usize) -> bool
@@ -17,14 +18,10 @@ fn names_ok(l: &[u8], from: usize, n: usize) -> bool
     requires { (from < 4294967296) × (n < 4294967296) }
     ensures { result ≡ every (name_ok l.now) (places 33 from n) }
 {
-    let mut at = from;
-    let mut left = n;
-    while left != 0 {
-        if !name_ok(l, at) {
+    for k in 0..n {
+        if !name_ok(l, from + block::NAME * k) {
             return false;
         }
-        at += block::NAME;
-        left -= 1;
     }
     true
 }
@@ -65,27 +62,26 @@ fn names_shape(l: &[u8], at: usize) -> bool
     names_ok(l, lent::u32_at(l, at + 8), fields)
 }
 
-fn record_shape(l: &[u8], h: usize) -> bool
-    requires { h < 4000000000 }
+fn record_shape(l: &[u8], h: Head) -> bool
     ensures { result ≡ record_shape l.now h }
 {
+    let at = h.at();
     let base = block::record_base(l, h);
     (base <= limits::MAX_BYTES)
-        & (name_ok(l, h + 32)
-            & (table_shape(l, h + 16, limits::MAX_FIELDS) & names_shape(l, h + 16)))
+        & (name_ok(l, at + 32)
+            & (table_shape(l, at + 16, limits::MAX_FIELDS) & names_shape(l, at + 16)))
 }
 
-fn struct_shape(l: &[u8], h: usize) -> bool
-    requires { h < 4000000000 }
+fn struct_shape(l: &[u8], h: Head) -> bool
     ensures { result ≡ struct_shape l.now h }
 {
+    let at = h.at();
     let size = block::struct_size(l, h);
     (size <= limits::MAX_BYTES)
-        & (name_ok(l, h + 12) & table_shape(l, h + 4, limits::MAX_STRUCT_FIELDS))
+        & (name_ok(l, at + 12) & table_shape(l, at + 4, limits::MAX_STRUCT_FIELDS))
 }
 
-fn head_shape(holder: Holder, l: &[u8], h: usize) -> bool
-    requires { h < 4000000000 }
+fn head_shape(holder: Holder, l: &[u8], h: Head) -> bool
     ensures { result ≡ head_shape holder l.now h }
 {
     match holder {
@@ -97,17 +93,7 @@ fn head_shape(holder: Holder, l: &[u8], h: usize) -> bool
 fn heads_shape(holder: Holder, l: &[u8]) -> bool
     ensures { result ≡ every (head_shape holder l.now) (heads holder l.now) }
 {
-    let step = block::head_size(holder);
-    let mut at = block::heads_from(holder, l);
-    let mut left = block::count_of(holder, l);
-    while left != 0 {
-        if !head_shape(holder, l, at) {
-            return false;
-        }
-        at += step;
-        left -= 1;
-    }
-    true
+    block::heads_of(holder, l).all(|h| head_shape(holder, l, h))
 }
 
 fn counts_ok(l: &[u8]) -> bool

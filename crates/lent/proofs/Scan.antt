@@ -5,6 +5,7 @@ use mathlib.Core.List.{List, [], ◌∷◌}
 use Prim.Native.Nat.{ℕ, zero, suc, ◌+◌, ◌-◌, ◌*◌, ◌≤◌, ◌<◌, max}
 use native.Mathlib.Nat.{not-suc-le-zero, mul-suc}
 use lib.ListN.{length, take, drop, get_or, drop_of_length-le, length-take}
+use lib.Pointwise.{pointwise}
 use lib.Seq.{drop-cons, get_or-take, length-take-le}
 use native.Mathlib.Omega.{arith}
 use Rattle.lent.specs.Scan.{gather, every, some, first, last, alike, tally, highest, places}
@@ -218,3 +219,11 @@ nth test read step at (suc n) zero h e =
 nth test read step at (suc n) (suc k) h e =
     let z : at + step * suc k ≡ (at + step) + step * k = simp mul-suc (omega arith) in
     rw z (nth test read (step) (at + step) n k (omega arith) (both (test (read at)) (every test (gather read step (at + step) n)) e).1)
+
+-- the library's comparison of two lists is the same
+pub alike-is : {A : Type 0} (test : A → A → Bool) (xs ys : List A) → pointwise test xs ys ≡ alike test xs ys
+unfolding alike
+alike-is test [] [] = refl
+alike-is test [] (y ∷ ys) = refl
+alike-is test (x ∷ xs) [] = refl
+alike-is test (x ∷ xs) (y ∷ ys) = ap (λ (b : Bool). test x y && b) (alike-is test xs ys)

@@ -25,6 +25,7 @@ pub fn join(low: u8, high: u8) -> u16
     (low as u16) + 256 * (high as u16)
 }
 
+// As `usize::from`, with the bound in the contract, which sums of offsets need.
 pub fn wide8(x: u8) -> usize
     ensures { (result ≡ x) × (result < 256) }
 {
@@ -100,17 +101,7 @@ pub fn window(s: &[u8], at: usize, n: usize) -> &[u8]
 pub fn same(a: &[u8], b: &[u8]) -> bool
     ensures { result ≡ alike eqb a.now b.now }
 {
-    if a.len() != b.len() {
-        return false;
-    }
-    let mut k = 0;
-    while k < a.len() {
-        if a[k] != b[k] {
-            return false;
-        }
-        k += 1;
-    }
-    true
+    a == b
 }
 
 pub fn greater(a: usize, b: usize) -> usize
@@ -125,6 +116,7 @@ pub fn lesser(a: usize, b: usize) -> usize
     if a < b { a } else { b }
 }
 
+// As `u8::from`, with the number as the definitions write it.
 pub fn one(b: bool) -> u8
     ensures { result ≡ cond b 1 0 }
 {

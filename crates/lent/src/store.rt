@@ -5,6 +5,7 @@ ghost use Rattle.lent.specs.Bytes.{bytes_of, window};
 
 use crate::words;
 
+// The bytes of a number one by one, as the definitions take it apart; `to_le_bytes` gives both where one is asked for.
 pub fn low(x: u16) -> u8
     ensures { result ≡ x % 256 }
 {
@@ -22,10 +23,8 @@ fn few(s: &[u8], from: usize, d: &mut [u8], to: usize, n: usize)
     requires { (from + n ≤ length s.now) × (to + n ≤ length d.old) }
     ensures { d.new ≡ sets d.old to (window s.now from n) }
 {
-    let mut i = 0;
-    while i < n {
+    for i in 0..n {
         d[to + i] = s[from + i];
-        i += 1;
     }
 }
 
@@ -50,10 +49,9 @@ pub fn copy(s: &[u8], from: usize, d: &mut [u8], to: usize, n: usize)
     }
     let last = n - 8;
     word(s, from, d, to);
-    let mut i = 8;
-    while i < last {
+    for k in 1..(last + 7) / 8 {
+        let i = 8 * k;
         word(s, from + i, d, to + i);
-        i += 8;
     }
     word(s, from + last, d, to + last);
 }
@@ -63,11 +61,7 @@ pub fn zeros(d: &mut [u8], at: usize, n: usize)
     requires { at + n ≤ length d.old }
     ensures { d.new ≡ sets d.old at (replicate n 0) }
 {
-    let mut i = 0;
-    while i < n {
-        d[at + i] = 0;
-        i += 1;
-    }
+    d[at..at + n].fill(0);
 }
 
 // The two bytes of a number, the low one first.

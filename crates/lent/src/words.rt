@@ -1,4 +1,5 @@
 // Numbers of two, four and eight bytes that lie inside, read and stored in straight lines: one load and one store each.
+// Each is two of the one before it: a const parameter for the width would call itself at half of it, which no const argument may be.
 ghost use Rattle.std.specs.Prelude.{◌≡◌, ◌+◌, ◌<◌, ◌≤◌, length};
 ghost use Rattle.std.proofs.lemmas.List.Edits.{sets};
 ghost use Rattle.lent.specs.Bytes.{number_at, bytes_of};

@@ -8,20 +8,17 @@ ghost use Rattle.mapping.specs.Mapping.{span};
 use lent::words;
 
 // The number that n bytes hold.
+#[tactic(auto, unfolding(crate::specs::Mapping::span, crate::specs::Mapping::half))]
 pub fn number_in(s: &[u8], at: usize, n: usize) -> u64
     requires { (is_width n ≡ true) × (at + n ≤ length s.now) }
     ensures { (result ≡ number_at s.now at n) × (result < span n) }
 {
-    if n == 1 {
-        return lent::wide8(s[at]) as u64;
+    match n {
+        1 => lent::wide8(s[at]) as u64,
+        2 => words::two_in(s, at) as u64,
+        4 => words::four_in(s, at) as u64,
+        _ => words::eight_in(s, at) as u64,
     }
-    if n == 2 {
-        return words::two_in(s, at) as u64;
-    }
-    if n == 4 {
-        return words::four_in(s, at) as u64;
-    }
-    words::eight_in(s, at) as u64
 }
 
 // The n low bytes of a number, stored from `at` on.
@@ -29,13 +26,10 @@ pub fn store_number(d: &mut [u8], at: usize, n: usize, v: u64)
     requires { (is_width n ≡ true) × (at + n ≤ length d.old) }
     ensures { d.new ≡ sets d.old at (bytes_of n v) }
 {
-    if n == 1 {
-        d[at] = (v % 256) as u8;
-    } else if n == 2 {
-        words::store_two(d, at, v);
-    } else if n == 4 {
-        words::store_four(d, at, v);
-    } else {
-        words::store_eight(d, at, v);
+    match n {
+        1 => d[at] = (v % 256) as u8,
+        2 => words::store_two(d, at, v),
+        4 => words::store_four(d, at, v),
+        _ => words::store_eight(d, at, v),
     }
 }

@@ -2,138 +2,136 @@
 mod default_bytes;
 pub mod fault;
 mod fields;
-mod items;
-pub mod state;
+mod item;
+pub mod line;
+mod open_table;
+mod settings;
 mod whole;
-mod words;
 
-use owl_blocks::room::Room;
-use owl_blocks::{pack, types};
-use state::State;
+use fault::{Fault, Flaw};
+use item::{Item, Part};
+use line::Line;
+use owl_blocks::room::{Room, Side};
+use whole::Open;
 
 const NEWLINE: u8 = b'\n';
 
-// ---- the items
-// The items by number; the first four close what is open.
-const SOURCE: usize = 0;
-
-const TARGET: usize = 1;
-
-const STRUCT: usize = 2;
-
-const PLAN: usize = 3;
-
-const FIELD: usize = 4;
-
-pub const AT: usize = 5;
-
-const BASE: usize = 6;
-
-pub const HEADER: usize = 7;
-
-const WANTED: usize = 8;
-
-const CATALOGUE: usize = 9;
-
-// No text has more lines.
-const MOST_LINES: usize = 1000000;
-
-fn item_of(line: &[u8]) -> usize {
-    blanks::which(
-        b"source target struct plan field at base header wanted catalogue",
-        blanks::word(line, 0),
-    )
+// Which records the plan is between, by their numbers.
+#[derive(Clone, Copy)]
+pub struct Chosen {
+    pub source: usize,
+    pub target: usize,
 }
 
-// ---- how many there will be, which decides where the tables begin
+// A line 'header': the length of the target's header, and where it stands.
+#[derive(Clone, Copy)]
+pub struct Header {
+    pub bytes: u16,
+    pub line: usize,
+}
 
-fn counted(n: u8, line: &[u8], item: usize) -> u8 {
-    if n < 255 {
-        if item_of(blanks::content(line)) == item {
-            return n + 1;
-        }
+// What is read so far.
+#[derive(Drop)]
+pub struct Layouts<'a> {
+    pub room: Room,
+    // How many lines.
+    pub lines: usize,
+    open: Option<Open<'a>>,
+    pub header: Option<Header>,
+    // The schema that is wanted, if one is.
+    pub wanted: Option<u16>,
+    // The records that the plan is between, if the text says so.
+    pub chosen: Option<Chosen>,
+}
+
+// How many lines have the item: that many of it there will be, which decides where the tables begin.
+fn count(text: &[u8], item: Item) -> u8 {
+    let found = text
+        .split(|&byte| byte == NEWLINE)
+        .filter(|line| Line::new(0, line).item() == Some(item))
+        .count();
+    u8::try_from(found).unwrap_or(u8::MAX)
+}
+
+// The text's layouts, or the first flaw in it.
+pub fn read(text: &[u8]) -> Result<Layouts<'_>, Flaw<'_>> {
+    let sources = count(text, Item::Record(Side::Source));
+    let targets = count(text, Item::Record(Side::Target));
+    let structs = count(text, Item::Struct);
+    let mut layouts = Layouts {
+        room: Room::new(sources, targets, structs),
+        lines: 0,
+        open: None,
+        header: None,
+        wanted: None,
+        chosen: None,
+    };
+    for line in text.split_inclusive(|&byte| byte == NEWLINE) {
+        let number = layouts.lines.saturating_add(1);
+        layouts.lines = number;
+        let content = line.strip_suffix(&[NEWLINE]).unwrap_or(line);
+        layouts.take(Line::new(number, content))?;
     }
-    n
+    layouts.close()?;
+    Ok(layouts)
 }
 
-fn count(text: &[u8], item: usize) -> u8 {
-    let mut n: u8 = 0;
-    let mut at = 0;
-    while at < text.len() {
-        let end = caseline::find(text, at, NEWLINE);
-        n = counted(n, &text[at..end], item);
-        at = end + 1;
-    }
-    n
-}
-
-fn begun(text: &[u8], room: &mut Room) -> State {
-    types::put_catalogue(room);
-    let structs = count(text, STRUCT);
-    let sources = count(text, SOURCE);
-    let targets = count(text, TARGET);
-    let source_end = pack::put_counts(room, state::SOURCE, sources, structs);
-    let target_end = pack::put_counts(room, state::TARGET, targets, structs);
-    state::start(source_end, target_end)
-}
-
-// ---- a line
-
-fn take_inner(item: usize, line: &[u8], room: &mut Room, s: State) -> State {
-    if (item < HEADER) & (s.open == state::NOTHING) {
-        return state::bad(s, 0, fault::NOT_OPEN);
-    }
-    match item {
-        FIELD => fields::take(line, room, s),
-        BASE => items::base(line, room, s),
-        AT | HEADER | WANTED => items::numbered(item, line, room, s),
-        CATALOGUE => items::catalogue(line, room, s),
-        // A line that has no item is blank.
-        _ => {
-            if blanks::words(line) == 0 {
-                return s;
+impl<'a> Layouts<'a> {
+    fn take(&mut self, line: Line<'a>) -> Result<(), Flaw<'a>> {
+        let Some(item) = line.item() else {
+            // A line that has no item is blank.
+            return match line.words() {
+                0 => Ok(()),
+                _ => Err(line.flaw(0, Fault::NoItem)),
+            };
+        };
+        match item {
+            Item::Record(side) => {
+                self.close()?;
+                self.open = Some(whole::open_record(line, side, &mut self.room)?);
             }
-            state::bad(s, 0, fault::NO_ITEM)
+            Item::Struct => {
+                self.close()?;
+                self.open = Some(whole::open_struct(line, &mut self.room)?);
+            }
+            Item::Plan => {
+                self.close()?;
+                self.chosen = Some(settings::plan(line, &self.room)?);
+            }
+            Item::Part(part) => self.take_part(line, part)?,
+            Item::Header => self.header = Some(settings::header(line)?),
+            Item::Wanted => self.wanted = Some(line.only_number()?),
+            Item::Catalogue => self.take_catalogue(line)?,
+        }
+        Ok(())
+    }
+
+    fn take_part(&mut self, line: Line<'a>, part: Part) -> Result<(), Flaw<'a>> {
+        let Some(open) = &mut self.open else {
+            return Err(line.flaw(0, Fault::NotOpen));
+        };
+        match part {
+            Part::Field => fields::take(line, &mut self.room, open),
+            Part::At => open.at(line, &self.room.catalogue),
+            Part::Base => open.base(line, &self.room.catalogue),
         }
     }
-}
 
-// The line that begins at `from`.
-fn take(whole_line: &[u8], from: usize, room: &mut Room, before: State) -> State {
-    let line = blanks::content(whole_line);
-    let item = item_of(line);
-    let mut here = before;
-    here.line = lent::lesser(before.line, MOST_LINES) + 1;
-    here.from = from;
-    if PLAN < item {
-        return take_inner(item, line, room, here);
-    }
-    let s = whole::close(room, here);
-    if s.why != fault::FINE {
-        return s;
-    }
-    match item {
-        SOURCE => whole::open_record(line, room, state::SOURCE, s.sources, s),
-        TARGET => whole::open_record(line, room, state::TARGET, s.targets, s),
-        STRUCT => whole::open_struct(line, room, s),
-        _ => items::plan(line, room, s),
-    }
-}
-
-// ---- the text
-
-// The room is zero before.
-pub fn read(text: &[u8], room: &mut Room) -> State {
-    let mut s = begun(text, room);
-    let mut at = 0;
-    while at < text.len() {
-        let end = caseline::find(text, at, NEWLINE);
-        let next_at = end + 1;
-        s = take(&text[at..end], at, room, s);
-        if s.why != fault::FINE {
-            return s;
+    // It stands before all that it decides.
+    fn take_catalogue(&mut self, line: Line<'a>) -> Result<(), Flaw<'a>> {
+        let room = &self.room;
+        let closed = room.source.records | room.target.records | room.source.structs;
+        if self.open.is_some() | (closed != 0) {
+            return Err(line.flaw(0, Fault::Late));
         }
-        at = next_at;
+        settings::catalogue(line, &mut self.room.catalogue)
     }
-    whole::close(room, s)
+
+    // Finishes what is open.
+    fn close(&mut self) -> Result<(), Flaw<'a>> {
+        match self.open.take() {
+            Some(open) => open.close(&mut self.room),
+            None => Ok(()),
+        }
+    }
 }

@@ -8,58 +8,86 @@ mod layouts;
 mod making;
 mod plans;
 
+use owl_say::console::Console;
 use owl_say::files;
-use owl_say::files::{Loaded, Text};
 use std::io;
 use std::rt::{Env, Files};
 
-fn make(
-    rt: &(impl Env + Print),
-    stderr: &impl Print,
-    text: &Text,
-    n: usize,
-    hash: bool,
-) -> io::Result<()> {
-    let all = lent::part(text, 0, n);
-    let mut slot = [0u8; slot::SIZE];
-    if hash {
-        return making::say_hashes(rt, stderr, all);
-    }
-    if making::plan_of(rt, stderr, all, &mut slot)? {
-        making::say_plan(rt, stderr, &slot)?;
-    }
-    Ok(())
+// The length of dbn's header in versions 1 to 3.
+const HEADER: usize = 16;
+
+#[derive(Clone, Copy)]
+enum Command {
+    Help,
+    Plan,
+    Hash,
+    Upgrade,
+    Check,
+    Map,
 }
 
-fn on_layouts(rt: &(impl Env + Files + Print), stderr: &impl Print, hash: bool) -> io::Result<()> {
-    let mut text = [0u8; files::ROOM];
-    match files::load_second(rt, stderr, &mut text, 3)? {
-        Loaded::Bytes(n) => make(rt, stderr, &text, n, hash),
-        Loaded::Failed => Ok(()),
+impl Command {
+    fn from_word(word: &[u8]) -> Option<Command> {
+        match word {
+            b"help" => Some(Command::Help),
+            b"plan" => Some(Command::Plan),
+            b"hash" => Some(Command::Hash),
+            b"upgrade" => Some(Command::Upgrade),
+            b"check" => Some(Command::Check),
+            b"map" => Some(Command::Map),
+            _ => None,
+        }
+    }
+}
+
+fn plan<R: Env + Files + Print, E: Print>(console: &Console<'_, R, E>) -> io::Result<()> {
+    let Some(text) = console.load_second(3)? else {
+        return Ok(());
+    };
+    match making::plan_of(console, text.as_slice())? {
+        Some(slot) => making::say_plan(console, &slot),
+        None => Ok(()),
+    }
+}
+
+fn hash<R: Env + Files + Print, E: Print>(console: &Console<'_, R, E>) -> io::Result<()> {
+    match console.load_second(3)? {
+        Some(text) => making::say_hashes(console, text.as_slice()),
+        None => Ok(()),
+    }
+}
+
+fn run<R: Env + Files + Input + Print, E: Print>(
+    console: &Console<'_, R, E>,
+    command: Command,
+) -> io::Result<()> {
+    match command {
+        Command::Help => help::show(console.rt),
+        Command::Plan => plan(console),
+        Command::Hash => hash(console),
+        Command::Upgrade => plans::upgrade(console),
+        Command::Check => plans::check(console),
+        Command::Map => plans::map(console),
     }
 }
 
 fn main(rt: HostRuntime) -> io::Result<()> {
     let stderr = rt.stderr();
+    let console = Console {
+        rt: &rt,
+        stderr: &stderr,
+    };
     if !files::has_arg(&rt, 1) {
-        return demo::show(&rt, &stderr);
+        return demo::show(&console);
     }
-    let mut word = [0u8; files::WORD];
-    let n = files::arg(&rt, 1, &mut word);
-    match blanks::which(b"help plan hash upgrade check map", &word[..n]) {
-        0 => help::show(&rt),
-        1 => on_layouts(&rt, &stderr, false),
-        2 => on_layouts(&rt, &stderr, true),
-        3 => plans::upgrade(&rt, &stderr),
-        4 => plans::check(&rt, &stderr),
-        5 => plans::map(&rt, &stderr),
-        _ => {
-            owl_say::complain(&stderr, b"owl: '")?;
-            files::complain_arg(&rt, &stderr, 1)?;
-            owl_say::complain(
-                &stderr,
-                b"' is no command; expected plan, hash, upgrade, check, map or help\n",
-            )
+    let word = files::arg(&rt, 1).ok();
+    let command = word.and_then(|word| Command::from_word(word.as_slice()));
+    match command {
+        Some(command) => run(&console, command),
+        None => {
+            print!(stderr; "owl: '")?;
+            console.complain_arg(1)?;
+            println!(stderr; "' is no command; expected plan, hash, upgrade, check, map or help")
         }
     }
 }

@@ -1,219 +1,196 @@
 // The plan and the hashes of a text of layouts.
-use crate::layouts::state::State;
-use crate::layouts::{fault, state};
-use crate::{faults, layouts};
+use crate::layouts::{Chosen, Layouts};
+use crate::{HEADER, faults, layouts};
 use field::Holder;
-use limits::refusal::Refusal;
-use owl_blocks::room::Room;
-use owl_blocks::{pack, room};
-use owl_say::{files, form, refusals};
-use plan_text::writer::Written;
+use limits::refusal::{Failure, Refusal};
+use owl_blocks::pack::Block;
+use owl_blocks::room::{Room, Side};
+use owl_say::console::Console;
+use owl_say::refusals;
+use owl_tape::Slot;
 use std::io;
 use std::rt::Env;
-use tuppenceowl::hashing::Summed;
-use tuppenceowl::planning::{Planned, Selected};
-use tuppenceowl::{Sized, hashing, planning, texting};
+use tuppenceowl::hashing::Walked;
+use tuppenceowl::{hashing, planning, texting};
 
-pub type Slot = [u8; slot::SIZE];
+// Bytes of the longest plan's text, and more.
+const LONGEST: usize = 16384;
 
-const RECORDS: u8 = limits::MAX_RECORDS as u8;
-
-// A side's layout, which ends at `end`.
-fn layout(room: &Room, side: u8, end: usize) -> &[u8] {
-    lent::part(room::block(room, side), 0, end)
-}
-
-// ---- which records
-
-// A refusal, at the line of the item that it concerns: the header's, or else the target's; where there is none, behind the text.
-fn refused(
-    rt: &impl Env,
-    stderr: &impl Print,
-    room: &Room,
-    s: State,
-    to: u8,
-    r: Refusal,
-) -> io::Result<()> {
-    let mut line = pack::line_of(room, to);
-    if s.targets == 0 {
-        line = lent::lesser(s.line, files::ROOM) + 1;
-    }
-    match r {
-        Refusal::BadHeader => {
-            if s.header_line != 0 {
-                line = s.header_line;
-            }
-        }
-        _ => {}
-    }
-    faults::place(rt, stderr, line)?;
-    refusals::refused(stderr, r)
-}
-
-// The target record that the text names, or the one that is selected.
-fn chosen(room: &Room, s: State) -> Selected {
-    if s.chosen {
-        return Selected::Record(lent::wide8(s.target));
-    }
-    planning::select(
-        room::catalogue(room),
-        layout(room, state::SOURCE, s.source_end),
-        lent::wide8(s.source),
-        layout(room, state::TARGET, s.target_end),
-        s.wanted,
-        s.schema,
-    )
+// Why there is no plan.
+#[derive(Clone, Copy)]
+enum Unplanned {
+    NoSource,
+    NoTarget,
+    // Of two records, one is missing.
+    NoRecord,
+    // The target record of this number.
+    Refused(Refusal, usize),
 }
 
 // ---- the plan
 
-// The default bytes behind the header of a target record; one that is too long has none.
-fn body(room: &Room, s: State, to: u8) -> &[u8] {
-    let number = lent::wide8(to);
-    let into = layout(room, state::TARGET, s.target_end);
-    let header = lent::lesser(s.header, limits::MAX_BYTES);
-    let mut n = 0;
-    if let Sized::Bytes(size) = tuppenceowl::record_size(room::catalogue(room), into, number) {
-        if size <= limits::MAX_BYTES {
-            n = lent::greater(size, header) - header;
+// The records that the text names, or its first source record and the one that is selected.
+fn chosen(layouts: &Layouts<'_>) -> Result<Chosen, Unplanned> {
+    if let Some(chosen) = layouts.chosen {
+        return Ok(chosen);
+    }
+    let room = &layouts.room;
+    let source = 0;
+    match planning::select(
+        &room.catalogue,
+        room.source.layout(),
+        source,
+        room.target.layout(),
+        layouts.wanted,
+    ) {
+        Ok(Some(target)) => Ok(Chosen { source, target }),
+        Ok(None) => Err(Unplanned::NoTarget),
+        Err(Failure::NoRecord) => Err(Unplanned::NoSource),
+        Err(Failure::Refused(refusal)) => Err(Unplanned::Refused(refusal, 0)),
+    }
+}
+
+// How many default bytes a target record has behind the header; one that is too long has none.
+fn body_size(room: &Room, target: usize, header: usize) -> usize {
+    match tuppenceowl::record_size(&room.catalogue, room.target.layout(), target) {
+        Ok(size) if size <= limits::MAX_BYTES => size.saturating_sub(header),
+        _ => 0,
+    }
+}
+
+fn plan(layouts: &Layouts<'_>) -> Result<Slot, Unplanned> {
+    let Chosen { source, target } = chosen(layouts)?;
+    let room = &layouts.room;
+    let header = layouts
+        .header
+        .map_or(HEADER, |header| usize::from(header.bytes));
+    let Some(defaults) = room.defaults.get(target) else {
+        return Err(Unplanned::NoRecord);
+    };
+    let behind = header.min(limits::MAX_BYTES);
+    let body = lent::part(&defaults.bytes, behind, body_size(room, target, behind));
+    let mut slot = [0; slot::SIZE];
+    match planning::plan(
+        &room.catalogue,
+        room.source.layout(),
+        source,
+        room.target.layout(),
+        target,
+        header,
+        body,
+        &defaults.marks,
+        &mut slot,
+    ) {
+        Ok(()) => Ok(slot),
+        Err(Failure::NoRecord) => Err(Unplanned::NoRecord),
+        Err(Failure::Refused(refusal)) => Err(Unplanned::Refused(refusal, target)),
+    }
+}
+
+// ---- why there is none
+
+// The line of the item that a refusal concerns: the header's, or else the target's; where there is none, behind the text.
+fn line_of(layouts: &Layouts<'_>, refusal: Refusal, target: usize) -> usize {
+    match (refusal, layouts.header) {
+        (Refusal::BadHeader, Some(header)) => header.line,
+        _ if layouts.room.target.records == 0 => layouts.lines.saturating_add(1),
+        _ => layouts
+            .room
+            .defaults
+            .get(target)
+            .map_or(0, |defaults| defaults.line),
+    }
+}
+
+fn say_unplanned<R: Env, E: Print>(
+    console: &Console<'_, R, E>,
+    layouts: &Layouts<'_>,
+    why: Unplanned,
+) -> io::Result<()> {
+    let stderr = console.stderr;
+    if let Unplanned::Refused(refusal, target) = why {
+        faults::place(console, line_of(layouts, refusal, target))?;
+        return refusals::refused(stderr, refusal);
+    }
+    console.complain_arg(2)?;
+    match why {
+        Unplanned::NoTarget => {
+            print!(stderr; ": no target record is selected for the source's '")?;
+            stderr.write_all(layouts.room.source.name_of(Holder::Record, 0))?;
+            println!(stderr; "';\n  expected one of its rtype, or a line 'plan SOURCE TARGET'")
+        }
+        Unplanned::NoSource => {
+            println!(stderr; ": no source record; expected a line 'source NAME RTYPE SCHEMA'")
+        }
+        _ => println!(stderr; ": a record is missing; expected a source and a target"),
+    }
+}
+
+// The plan of a text; if it has none, it was said why.
+pub fn plan_of<R: Env, E: Print>(
+    console: &Console<'_, R, E>,
+    text: &[u8],
+) -> io::Result<Option<Slot>> {
+    let layouts = match layouts::read(text) {
+        Ok(layouts) => layouts,
+        Err(flaw) => {
+            faults::say(console, &flaw)?;
+            return Ok(None);
+        }
+    };
+    match plan(&layouts) {
+        Ok(slot) => Ok(Some(slot)),
+        Err(why) => {
+            say_unplanned(console, &layouts, why)?;
+            Ok(None)
         }
     }
-    let from = room::BODIES_AT + limits::MAX_BYTES * number;
-    lent::part(room, from + header, n)
 }
 
-fn plan_to(
-    rt: &impl Env,
-    stderr: &impl Print,
-    room: &Room,
-    s: State,
-    to: u8,
-    slot: &mut Slot,
-) -> io::Result<bool> {
-    let cat = room::catalogue(room);
-    let l = layout(room, state::SOURCE, s.source_end);
-    let into = layout(room, state::TARGET, s.target_end);
-    let k = lent::wide8(s.source);
-    let number = lent::wide8(to);
-    let body = body(room, s, to);
-    let marks_at = room::MARKS_AT + limits::MAX_FIELDS * number;
-    let marks = lent::part(room, marks_at, limits::MAX_FIELDS);
-    match planning::plan(cat, l, k, into, number, s.header, body, marks, slot) {
-        Planned::Made => return Ok(true),
-        Planned::NoRecord => faults::of_file(
-            rt,
-            stderr,
-            b": a record is missing; expected a source and a target\n",
-        )?,
-        Planned::Refused(r) => refused(rt, stderr, room, s, to, r)?,
-    }
-    Ok(false)
-}
-
-// Whether a plan stands in the slot; if not, it was said why.
-fn plan(
-    rt: &impl Env,
-    stderr: &impl Print,
-    room: &Room,
-    s: State,
-    slot: &mut Slot,
-) -> io::Result<bool> {
-    match chosen(room, s) {
-        Selected::Record(to) => return plan_to(rt, stderr, room, s, (to % 256) as u8, slot),
-        Selected::Unplanned => {
-            let source = layout(room, state::SOURCE, s.source_end);
-            faults::of_file(
-                rt,
-                stderr,
-                b": no target record is selected for the source's '",
-            )?;
-            owl_say::complain(stderr, pack::name_of(Holder::Record, source, s.source))?;
-            owl_say::complain(
-                stderr,
-                b"';\n  expected one of its rtype, or a line 'plan SOURCE TARGET'\n",
-            )?;
-        }
-        Selected::NoRecord => faults::of_file(
-            rt,
-            stderr,
-            b": no source record; expected a line 'source NAME RTYPE SCHEMA'\n",
-        )?,
-        Selected::Refused(r) => refused(rt, stderr, room, s, 0, r)?,
-    }
-    Ok(false)
-}
-
-pub fn say_plan(stdout: &impl Print, stderr: &impl Print, slot: &Slot) -> io::Result<()> {
-    let mut text = [0u8; 16384];
+pub fn say_plan<R: Print, E: Print>(console: &Console<'_, R, E>, slot: &Slot) -> io::Result<()> {
+    let mut text = [0; LONGEST];
     match texting::write_plan(slot, &mut text) {
-        Written::Length(n) => owl_say::out(stdout, lent::part(&text, 0, n)),
-        Written::Refused(r) => refusals::refused(stderr, r),
+        Ok(n) => console.rt.write_all(lent::part(&text, 0, n)),
+        Err(refusal) => refusals::refused(console.stderr, refusal),
     }
 }
 
 // ---- the hashes
 
-fn say_record(stdout: &impl Print, side: &[u8], l: &[u8], k: u8) -> io::Result<()> {
-    owl_say::out(stdout, side)?;
-    owl_say::out(stdout, pack::name_of(Holder::Record, l, k))?;
-    let rtype = lent::wide16(pack::rtype_of(l, k));
-    form::say(stdout, b" rtype # ", form::one(rtype))
+fn say_record(stdout: &impl Print, side: Side, block: &Block, k: u8) -> io::Result<()> {
+    let rtype = block.rtype_of(k);
+    print!(stdout; "{side} ")?;
+    stdout.write_all(block.name_of(Holder::Record, k))?;
+    print!(stdout; " rtype {rtype} ")
 }
 
-// Whether there is a record k.
-fn hashed(stdout: &impl Print, side: &[u8], cat: &[u8], l: &[u8], k: u8) -> io::Result<bool> {
-    match hashing::layout_hash(cat, l, lent::wide8(k)) {
-        Summed::Hash(fp, visits) => {
-            say_record(stdout, side, l, k)?;
-            print!(stdout; "hash {fp:016x}")?;
-            form::say(stdout, b" visits #\n", form::one(visits))?;
+fn say_side(stdout: &impl Print, room: &Room, side: Side) -> io::Result<()> {
+    let block = room.block(side);
+    for k in 0..limits::MAX_RECORDS as u8 {
+        match hashing::layout_hash(&room.catalogue, block.layout(), usize::from(k)) {
+            Ok(Walked { fp, visits }) => {
+                say_record(stdout, side, block, k)?;
+                println!(stdout; "hash {fp:016x} visits {visits}")?;
+            }
+            Err(Failure::Refused(refusal)) => {
+                say_record(stdout, side, block, k)?;
+                refusals::refused(stdout, refusal)?;
+            }
+            Err(Failure::NoRecord) => return Ok(()),
         }
-        Summed::NoRecord => return Ok(false),
-        Summed::Refused(r) => {
-            say_record(stdout, side, l, k)?;
-            refusals::refused(stdout, r)?;
-        }
-    }
-    Ok(true)
-}
-
-fn hashes(stdout: &impl Print, side: &[u8], cat: &[u8], l: &[u8]) -> io::Result<()> {
-    let mut k: u8 = 0;
-    while k < RECORDS {
-        if !hashed(stdout, side, cat, l, k)? {
-            return Ok(());
-        }
-        k += 1;
     }
     Ok(())
 }
 
-// ---- a text
-
-// Whether its plan stands in the slot; if not, it was said why.
-pub fn plan_of(
-    rt: &impl Env,
-    stderr: &impl Print,
+pub fn say_hashes<R: Env + Print, E: Print>(
+    console: &Console<'_, R, E>,
     text: &[u8],
-    slot: &mut Slot,
-) -> io::Result<bool> {
-    let mut room = [0u8; room::SIZE];
-    let s = layouts::read(text, &mut room);
-    if s.why != fault::FINE {
-        faults::say(rt, stderr, text, s)?;
-        return Ok(false);
+) -> io::Result<()> {
+    match layouts::read(text) {
+        Ok(layouts) => {
+            say_side(console.rt, &layouts.room, Side::Source)?;
+            say_side(console.rt, &layouts.room, Side::Target)
+        }
+        Err(flaw) => faults::say(console, &flaw),
     }
-    plan(rt, stderr, &room, s, slot)
-}
-
-pub fn say_hashes(rt: &(impl Env + Print), stderr: &impl Print, text: &[u8]) -> io::Result<()> {
-    let mut room = [0u8; room::SIZE];
-    let s = layouts::read(text, &mut room);
-    if s.why != fault::FINE {
-        return faults::say(rt, stderr, text, s);
-    }
-    let source = layout(&room, state::SOURCE, s.source_end);
-    let target = layout(&room, state::TARGET, s.target_end);
-    hashes(rt, b"source ", room::catalogue(&room), source)?;
-    hashes(rt, b"target ", room::catalogue(&room), target)
 }

@@ -1,69 +1,59 @@
 // The commands that take a plan's text.
-use caseline::Parsed;
+use crate::HEADER;
+use owl_say::console::Console;
 use owl_say::files;
-use owl_say::files::Loaded;
 use owl_tape::Slot;
 use std::io;
 use std::rt::{Env, Files};
 
-// dbn's header in versions 1 to 3.
-const HEADER: usize = 16;
-
-// Whether a plan stands in the slot; if not, it was said why, of a text that is no plan to `stream`.
-fn load(
-    rt: &(impl Env + Files),
-    stderr: &impl Print,
+// The plan that the file holds; if it holds none, it was said why, of a text that is no plan to `stream`.
+fn load<R: Env + Files, E: Print>(
+    console: &Console<'_, R, E>,
     stream: &impl Print,
-    slot: &mut Slot,
     most: usize,
-) -> io::Result<bool> {
-    let mut text = [0u8; files::ROOM];
-    match files::load_second(rt, stderr, &mut text, most)? {
-        Loaded::Bytes(n) => owl_tape::read(rt, stream, &text, n, 2, slot),
-        Loaded::Failed => Ok(false),
+) -> io::Result<Option<Slot>> {
+    match console.load_second(most)? {
+        Some(text) => owl_tape::read(console.rt, stream, text.as_slice(), 2),
+        None => Ok(None),
     }
 }
 
 // ---- the commands
 
-pub fn check(rt: &(impl Env + Files + Print), stderr: &impl Print) -> io::Result<()> {
-    let mut slot = [0u8; slot::SIZE];
-    // Here it is the result.
-    if load(rt, stderr, rt, &mut slot, 3)? {
-        owl_map::summary(rt, &slot)?;
+pub fn check<R: Env + Files + Print, E: Print>(console: &Console<'_, R, E>) -> io::Result<()> {
+    // Here that the text is no plan is the result.
+    match load(console, console.rt, 3)? {
+        Some(slot) => owl_map::summary(console.rt, &slot),
+        None => Ok(()),
     }
-    Ok(())
 }
 
-pub fn map(rt: &(impl Env + Files + Print), stderr: &impl Print) -> io::Result<()> {
-    let mut slot = [0u8; slot::SIZE];
-    if load(rt, stderr, stderr, &mut slot, 3)? {
-        owl_map::draw(rt, &slot)?;
+pub fn map<R: Env + Files + Print, E: Print>(console: &Console<'_, R, E>) -> io::Result<()> {
+    match load(console, console.stderr, 3)? {
+        Some(slot) => owl_map::draw(console.rt, &slot),
+        None => Ok(()),
     }
-    Ok(())
 }
 
-fn header(rt: &impl Env) -> Parsed {
+// The length of the source's header, if the word for it is a number.
+fn header(rt: &impl Env) -> Option<usize> {
     if !files::has_arg(rt, 3) {
-        return Parsed::Is(HEADER);
+        return Some(HEADER);
     }
-    let mut word = [0u8; files::WORD];
-    let n = files::arg(rt, 3, &mut word);
-    caseline::short(&word[..n])
+    let word = files::arg(rt, 3).ok()?;
+    caseline::short(word.as_slice())
 }
 
-pub fn upgrade(rt: &(impl Env + Files + Input + Print), stderr: &impl Print) -> io::Result<()> {
-    let Parsed::Is(n) = header(rt) else {
-        owl_say::complain(stderr, b"owl: '")?;
-        files::complain_arg(rt, stderr, 3)?;
-        return owl_say::complain(
-            stderr,
-            b"': expected the length of the source's header, a number\n",
-        );
+pub fn upgrade<R: Env + Files + Input + Print, E: Print>(
+    console: &Console<'_, R, E>,
+) -> io::Result<()> {
+    let Some(header) = header(console.rt) else {
+        print!(console.stderr; "owl: '")?;
+        console.complain_arg(3)?;
+        return println!(console.stderr; "': expected the length of the source's header, a number");
     };
-    let mut slot = [0u8; slot::SIZE];
-    if load(rt, stderr, stderr, &mut slot, 4)? {
-        owl_tape::run(rt, &slot, n)?;
+    match load(console, console.stderr, 4)? {
+        Some(slot) => owl_tape::run(console.rt, &slot, header),
+        None => Ok(()),
     }
-    Ok(())
 }

@@ -1,13 +1,15 @@
-// The blocks of both layouts (docs/FORMATS.md), by side: the source's or the target's.
-ghost use Rattle.std.specs.Prelude.{◌≤◌};
+// The block of one layout (docs/FORMATS.md), as it grows.
+ghost use Rattle.std.specs.Prelude.{◌≡◌, ◌+◌, ◌*◌, ◌<◌, ◌≤◌, length, min, take, IfSome, OnOk, OnErr};
 
-use crate::room;
-use crate::room::Room;
 use caseline::put;
 use field::Holder;
 use layout::block;
 
+pub const ROOM: usize = 65536;
+
 // Places of a record's head, and of a struct's.
+const SCHEMA_AT: usize = 2;
+
 const BASE_AT: usize = 4;
 
 const TABLE_AT: usize = 16;
@@ -20,115 +22,168 @@ const STRUCT_TABLE_AT: usize = 4;
 
 const STRUCT_NAME_AT: usize = 12;
 
-// A number of four bytes, low byte first, or two of two bytes.
-fn four(room: &mut Room, at: usize, n: usize) {
-    if at < room::SIZE - 3 {
-        lent::words::store_four(room, at, n as u64);
-    }
+// Puts a number of four bytes at a place, low byte first.
+fn put_number(bytes: &mut [u8], at: usize, n: usize) {
+    put::text(bytes, at, &n.to_le_bytes()[..4]);
 }
 
-// ---- heads
+// The layouts take more bytes than there are.
+#[derive(Clone, Copy, Debug, PartialEq, Eq)]
+pub struct Full;
 
-// Where the first table begins.
-pub fn put_counts(room: &mut Room, side: u8, records: u8, structs: u8) -> usize {
-    let many = records as usize;
-    let nested = structs as usize;
-    four(room, room::start(side), many + 65536 * nested);
-    block::record_head(0) + block::RECORD_HEAD * many + block::STRUCT_HEAD * nested
+#[derive(Drop)]
+pub struct Block {
+    pub bytes: [u8; ROOM],
+    // Where it ends.
+    pub end: usize,
+    // How many are whole.
+    pub records: u8,
+    pub structs: u8,
+    ghost inside: { end < 65536 },
 }
 
-fn name_at(holder: Holder, l: &[u8], k: u8) -> usize
-    ensures { result ≤ 8000000 }
-{
-    match holder {
-        Holder::Record => block::record_head(k as usize) + NAME_AT,
-        Holder::Struct => block::struct_head(l, k as u16) + STRUCT_NAME_AT,
-    }
-}
+impl Block {
+    ghost use Rattle.owl_blocks.specs.Whole.{whole_of, IsAsWhole};
 
-pub fn put_name(holder: Holder, room: &mut Room, side: u8, k: u8, name: &[u8]) {
-    let at = room::start(side) + name_at(holder, room::block(room, side), k);
-    let behind = put::byte(room, at, (name.len() % 256) as u8);
-    put::text(room, behind, name);
-}
-
-pub fn name_of(holder: Holder, l: &[u8], k: u8) -> &[u8] {
-    let at = name_at(holder, l, k);
-    lent::part(l, at + 1, lent::byte_at(l, at) as usize)
-}
-
-pub fn rtype_of(l: &[u8], k: u8) -> u16 {
-    lent::u16_at(l, block::record_head(k as usize))
-}
-
-// Which of the first n has this name, or n.
-pub fn named(holder: Holder, l: &[u8], n: u8, name: &[u8]) -> u8 {
-    let mut k: u8 = 0;
-    while k < n {
-        if lent::same(name_of(holder, l, k), name) {
-            return k;
+    // Of a layout that will have so many records and structs: where the first table begins depends on them.
+    pub fn new(records: u8, structs: u8) -> Self
+        ensures { result.end ≡ 8 + 72 * records + 48 * structs }
+    {
+        let mut bytes = [0; ROOM];
+        bytes[0] = records;
+        bytes[2] = structs;
+        let heads = block::RECORD_HEAD * usize::from(records);
+        let struct_heads = block::STRUCT_HEAD * usize::from(structs);
+        Block {
+            bytes,
+            end: block::record_head(0).at() + heads + struct_heads,
+            records: 0,
+            structs: 0,
         }
-        k += 1;
     }
-    n
-}
 
-// The numbers are the rtype and, in the high two bytes, the schema.
-pub fn open_record(room: &mut Room, side: u8, k: u8, numbers: usize, name: &[u8]) {
-    four(
-        room,
-        room::start(side) + block::record_head(k as usize),
-        numbers,
-    );
-    put_name(Holder::Record, room, side, k, name);
-}
+    // The layout so far.
+    pub fn layout(&self) -> &[u8]
+        ensures { result.now ≡ take self.now.end self.now.bytes }
+    {
+        &self.bytes[..self.end]
+    }
 
-// The line that opened target record k.
-pub fn put_line(room: &mut Room, k: u8, line: usize) {
-    four(room, room::LINES_AT + 4 * k as usize, line);
-}
+    // ---- heads
 
-pub fn line_of(room: &Room, k: u8) -> usize {
-    lent::u32_at(room, room::LINES_AT + 4 * k as usize)
-}
+    fn head(&self, holder: Holder, k: u8) -> usize
+        ensures { result < 4000000000 }
+    {
+        match holder {
+            Holder::Record => block::record_head(usize::from(k)).at(),
+            Holder::Struct => block::struct_head(&self.bytes, u16::from(k)).at(),
+        }
+    }
 
-// ---- tables and names, stored from `end` on; the answer is where the block ends then
+    fn name_at(&self, holder: Holder, k: u8) -> usize
+        ensures { result < 4000000100 }
+    {
+        let at = match holder {
+            Holder::Record => NAME_AT,
+            Holder::Struct => STRUCT_NAME_AT,
+        };
+        self.head(holder, k) + at
+    }
 
-fn put_part(room: &mut Room, side: u8, at: usize, end: usize, part: &[u8]) -> usize
-    requires { at ≤ 8000000 }
-{
-    let start = room::start(side);
-    let from = lent::lesser(end, room::BLOCK);
-    four(room, start + at, from);
-    four(room, start + at + 4, part.len());
-    put::text(room, start + from, part);
-    from + part.len() % room::BLOCK
-}
+    pub fn name_of(&self, holder: Holder, k: u8) -> &[u8] {
+        let at = self.name_at(holder, k);
+        let layout = self.layout();
+        lent::part(layout, at + 1, usize::from(lent::byte_at(layout, at)))
+    }
 
-pub fn close_record(
-    room: &mut Room,
-    side: u8,
-    k: u8,
-    end: usize,
-    base: usize,
-    table: &[u8],
-    names: &[u8],
-) -> usize {
-    let at = block::record_head(k as usize);
-    four(room, room::start(side) + at + BASE_AT, base);
-    let next = put_part(room, side, at + TABLE_AT, end, table);
-    put_part(room, side, at + NAMES_AT, next, names)
-}
+    pub fn rtype_of(&self, k: u8) -> u16 {
+        lent::u16_at(self.layout(), self.head(Holder::Record, k))
+    }
 
-pub fn close_struct(
-    room: &mut Room,
-    side: u8,
-    k: u8,
-    end: usize,
-    size: usize,
-    table: &[u8],
-) -> usize {
-    let at = block::struct_head(room::block(room, side), k as u16);
-    four(room, room::start(side) + at, size);
-    put_part(room, side, at + STRUCT_TABLE_AT, end, table)
+    // How many are whole.
+    fn whole(&self, holder: Holder) -> u8
+        ensures { result ≡ whole_of holder self.now }
+    {
+        match holder {
+            Holder::Record => self.records,
+            Holder::Struct => self.structs,
+        }
+    }
+
+    // The first whole one of this name.
+    pub fn named(&self, holder: Holder, name: &[u8]) -> Option<u8>
+        ensures { IfSome result (λ k. k < whole_of holder self.now) }
+    {
+        (0..self.whole(holder)).find(|&k| self.name_of(holder, k) == name)
+    }
+
+    fn put_name(&mut self, holder: Holder, k: u8, name: &[u8])
+        ensures { IsAsWhole self.old self.new }
+    {
+        let at = self.name_at(holder, k);
+        put::text(&mut self.bytes, at, &name.len().to_le_bytes()[..1]);
+        put::text(&mut self.bytes, at + 1, name);
+    }
+
+    pub fn open_record(&mut self, rtype: u16, schema: u16, name: &[u8])
+        ensures { IsAsWhole self.old self.new }
+    {
+        let at = self.head(Holder::Record, self.records);
+        put::text(&mut self.bytes, at, &rtype.to_le_bytes());
+        put::text(&mut self.bytes, at + SCHEMA_AT, &schema.to_le_bytes());
+        self.put_name(Holder::Record, self.records, name);
+    }
+
+    pub fn open_struct(&mut self, name: &[u8])
+        ensures { IsAsWhole self.old self.new }
+    {
+        self.put_name(Holder::Struct, self.structs, name);
+    }
+
+    // ---- tables and names, behind all others
+
+    // Where the part stands and how long it is goes into a head.
+    fn push(&mut self, head: usize, part: &[u8]) -> Result<(), Full>
+        requires { head < 4000000100 }
+        ensures ok { OnOk result (self.new.end ≡ self.old.end + length part.now) }
+        ensures full { OnErr result (65536 ≤ self.old.end + length part.now) }
+        ensures records { self.new.records ≡ self.old.records }
+        ensures structs { self.new.structs ≡ self.old.structs }
+    {
+        let from = self.end;
+        let end = from + part.len();
+        if ROOM <= end {
+            return Err(Full);
+        }
+        put::text(&mut self.bytes, from, part);
+        self.end = end;
+        put_number(&mut self.bytes, head, from);
+        put_number(&mut self.bytes, head + 4, part.len());
+        Ok(())
+    }
+
+    pub fn close_record(&mut self, base: usize, table: &[u8], names: &[u8]) -> Result<(), Full>
+        ensures ok { OnOk result (self.new.end ≡ self.old.end + length table.now + length names.now) }
+        ensures counted { OnOk result (self.new.records ≡ min 255 (self.old.records + 1)) }
+        ensures full { OnErr result (65536 ≤ self.old.end + length table.now + length names.now) }
+    {
+        let at = self.head(Holder::Record, self.records);
+        put_number(&mut self.bytes, at + BASE_AT, base);
+        self.push(at + TABLE_AT, table)?;
+        self.push(at + NAMES_AT, names)?;
+        self.records = self.records.saturating_add(1);
+        Ok(())
+    }
+
+    pub fn close_struct(&mut self, size: usize, table: &[u8]) -> Result<(), Full>
+        ensures ok { OnOk result (self.new.end ≡ self.old.end + length table.now) }
+        ensures counted { OnOk result (self.new.structs ≡ min 255 (self.old.structs + 1)) }
+        ensures full { OnErr result (65536 ≤ self.old.end + length table.now) }
+    {
+        let at = self.head(Holder::Struct, self.structs);
+        put_number(&mut self.bytes, at, size);
+        self.push(at + STRUCT_TABLE_AT, table)?;
+        self.structs = self.structs.saturating_add(1);
+        Ok(())
+    }
 }

@@ -1,57 +1,70 @@
-// One room for all that a text of layouts is read into: a function takes it whole, and its length is part of its type.
-ghost use Rattle.std.specs.Prelude.{◌≤◌};
+// One room for all that a text of layouts is read into.
+ghost use Rattle.std.specs.Prelude.{◌≡◌, ◌+◌, ◌*◌};
+ghost use Rattle.owl_blocks.specs.Whole.{block_of};
 
-use layout::block;
+use crate::pack::Block;
+use crate::types;
+use std::fmt;
 
-// The sides.
-pub const SOURCE: u8 = 1;
-
-pub const TARGET: u8 = 2;
-
-// The catalogue stands at its start.
-pub const CATALOGUE: usize = 262;
-
-pub const BLOCK: usize = 65536;
-
-// The fields and the names of the record that is open stand apart, since the field cursor writes to both.
-pub const ROWS: usize = field::SIZE * limits::MAX_FIELDS;
-
-pub const NAMES: usize = block::NAME * limits::MAX_FIELDS;
-
-pub type Rows = [u8; ROWS];
-
-pub type Names = [u8; NAMES];
-
-// The blocks of both layouts. Behind each is room for one record more: a block that grew too long is refused before it reaches the next part.
-const SOURCE_AT: usize = CATALOGUE;
-
-const TARGET_AT: usize = SOURCE_AT + BLOCK + ROWS + NAMES;
-
-// Of each target record the default of each byte, by offset, a mark for each field, and the line that opened it, for a message.
-pub const BODIES_AT: usize = TARGET_AT + BLOCK + ROWS + NAMES;
-
-pub const MARKS_AT: usize = BODIES_AT + limits::MAX_RECORDS * limits::MAX_BYTES;
-
-pub const LINES_AT: usize = MARKS_AT + limits::MAX_RECORDS * limits::MAX_FIELDS;
-
-pub const SIZE: usize = LINES_AT + 4 * limits::MAX_RECORDS;
-
-pub type Room = [u8; SIZE];
-
-pub fn catalogue(room: &Room) -> &[u8] {
-    lent::part(room, 0, CATALOGUE)
+#[derive(Clone, Copy, Debug, PartialEq, Eq)]
+pub enum Side {
+    Source,
+    Target,
 }
 
-// Where the block of a side begins.
-pub fn start(side: u8) -> usize
-    ensures { result ≤ 100000 }
-{
-    if side == TARGET {
-        return TARGET_AT;
+impl fmt::Display for Side {
+    fn fmt<W: fmt::Write>(&self, f: &mut fmt::Formatter<W>) -> fmt::Result {
+        f.write_str(match self {
+            Side::Source => "source",
+            Side::Target => "target",
+        })
     }
-    SOURCE_AT
 }
 
-pub fn block(room: &Room, side: u8) -> &[u8] {
-    lent::part(room, start(side), BLOCK)
+// What a target record has besides its block.
+#[derive(Clone, Copy)]
+pub struct Defaults {
+    // The default of each byte, by offset.
+    pub bytes: [u8; limits::MAX_BYTES],
+    // A mark for each field.
+    pub marks: [u8; limits::MAX_FIELDS],
+    // The line that opened it, for a message.
+    pub line: usize,
+}
+
+#[derive(Drop)]
+pub struct Room {
+    pub catalogue: [u8; types::CATALOGUE],
+    pub source: Block,
+    pub target: Block,
+    pub defaults: [Defaults; limits::MAX_RECORDS],
+}
+
+impl Room {
+    // Of so many records and structs, which decides where the tables begin.
+    pub fn new(sources: u8, targets: u8, structs: u8) -> Self
+        ensures source { result.source.end ≡ 8 + 72 * sources + 48 * structs }
+        ensures target { result.target.end ≡ 8 + 72 * targets + 48 * structs }
+    {
+        let none = Defaults {
+            bytes: [0; limits::MAX_BYTES],
+            marks: [0; limits::MAX_FIELDS],
+            line: 0,
+        };
+        Room {
+            catalogue: *types::BUILT_IN,
+            source: Block::new(sources, structs),
+            target: Block::new(targets, structs),
+            defaults: [none; limits::MAX_RECORDS],
+        }
+    }
+
+    pub fn block(&self, side: Side) -> &Block
+        ensures { result.now ≡ block_of side self.now }
+    {
+        match side {
+            Side::Source => &self.source,
+            Side::Target => &self.target,
+        }
+    }
 }

@@ -1,85 +1,86 @@
-// What may be wrong with a line, and what was expected: the numbers of the messages below. A flaw of one field is its message's and FIELD for
-// each field up to it; 0 is none.
-use owl_say::form;
-use std::io;
+// What may be wrong with a line, and what was expected.
+use std::fmt;
 
-pub const FIELD: usize = 100;
+/// A flaw of a line, or of one of its words: the first word is what the line is called, the words behind it are its fields.
+#[derive(Clone, Copy, Debug, PartialEq, Eq)]
+pub enum Flaw {
+    // Form.
+    PlanWord,
+    BodyWord,
+    StepWord,
+    Words,
+    Number { field: usize },
+    Edition,
+    Hex,
+    Sign,
+    Mark,
+    Missing,
+    NoNewline,
+    // Rules.
+    Head,
+    BodyLength,
+    StepCount,
+    SourceEnd,
+    Order,
+    TargetEnd,
+    Empty,
+    Widths,
+    Narrows,
+}
 
-// Form.
-pub const PLAN_WORD: usize = 1;
-
-pub const BODY_WORD: usize = 2;
-
-pub const STEP_WORD: usize = 3;
-
-pub const WORDS: usize = 4;
-
-pub const NUMBER: usize = 5;
-
-pub const EDITION: usize = 6;
-
-pub const HEX: usize = 7;
-
-pub const SIGN: usize = 8;
-
-pub const MARK: usize = 9;
-
-pub const MISSING: usize = 10;
-
-pub const NO_NEWLINE: usize = 11;
-
-// Rules.
-pub const HEAD: usize = 12;
-
-pub const BODY_LENGTH: usize = 13;
-
-pub const STEP_COUNT: usize = 14;
-
-pub const SOURCE_END: usize = 15;
-
-pub const ORDER: usize = 16;
-
-pub const TARGET_END: usize = 17;
-
-pub const EMPTY: usize = 18;
-
-pub const WIDTHS: usize = 19;
-
-pub const NARROWS: usize = 20;
-
-// The line, the field behind the first where one is meant, and what was expected. The messages are parted by tabs, the first behind one.
-pub fn say(stream: &impl Print, line: usize, why: usize) -> io::Result<()> {
-    let message = caseline::word(
-        b"\texpected 'plan', the edition 1 and seven numbers, parted by tabs\n\
-        \texpected 'body', a tab and hex\n\
-        \texpected a step, 'copy' or 'int'\n\
-        \tanother number of words than this line has in a plan\n\
-        \texpected a number up to 65535, without leading zeros\n\
-        \texpected the edition 1\n\
-        \texpected bytes in hex, two of 0-9 a-f each\n\
-        \texpected u or s\n\
-        \texpected 0 or 1\n\
-        \tthe text ends before this line\n\
-        \tthe last line lacks its end\n\
-        \texpected bases and size up to 4096, header up to 64 and the size, 128 steps at most\n\
-        \texpected two digits a byte, from the header's length to the record size\n\
-        \tthe text ends with another number of steps than its first line says\n\
-        \tthe step reads past byte 4096\n\
-        \tthe step begins before the header's end or the last step's\n\
-        \tthe step ends past the record size\n\
-        \texpected a size of at least 1\n\
-        \texpected two different sizes out of 1, 2, 4 and 8\n\
-        \tan integer without a mark gets wider, not narrower\n",
-        why % FIELD,
-    );
-    if why < FIELD {
-        form::say(stream, b":#: no plan (r16): ", form::one(line))?;
-    } else {
-        form::say(
-            stream,
-            b":#: field #: no plan (r16): ",
-            form::two(line, why / FIELD),
-        )?;
+impl Flaw {
+    // The field behind the first word where one is meant.
+    fn field(self) -> Option<usize> {
+        match self {
+            Flaw::Number { field } => Some(field),
+            Flaw::Edition | Flaw::Hex | Flaw::BodyLength | Flaw::SourceEnd => Some(1),
+            Flaw::Order | Flaw::TargetEnd => Some(2),
+            Flaw::Empty | Flaw::Widths => Some(3),
+            Flaw::Narrows => Some(4),
+            Flaw::Sign => Some(5),
+            Flaw::Mark => Some(6),
+            _ => None,
+        }
     }
-    owl_say::to(stream, message)
+
+    fn message(self) -> &'static str {
+        match self {
+            Flaw::PlanWord => "expected 'plan', the edition 1 and seven numbers, parted by tabs",
+            Flaw::BodyWord => "expected 'body', a tab and hex",
+            Flaw::StepWord => "expected a step, 'copy' or 'int'",
+            Flaw::Words => "another number of words than this line has in a plan",
+            Flaw::Number { .. } => "expected a number up to 65535, without leading zeros",
+            Flaw::Edition => "expected the edition 1",
+            Flaw::Hex => "expected bytes in hex, two of 0-9 a-f each",
+            Flaw::Sign => "expected u or s",
+            Flaw::Mark => "expected 0 or 1",
+            Flaw::Missing => "the text ends before this line",
+            Flaw::NoNewline => "the last line lacks its end",
+            Flaw::Head => {
+                "expected bases and size up to 4096, header up to 64 and the size, 128 steps at most"
+            }
+            Flaw::BodyLength => {
+                "expected two digits a byte, from the header's length to the record size"
+            }
+            Flaw::StepCount => {
+                "the text ends with another number of steps than its first line says"
+            }
+            Flaw::SourceEnd => "the step reads past byte 4096",
+            Flaw::Order => "the step begins before the header's end or the last step's",
+            Flaw::TargetEnd => "the step ends past the record size",
+            Flaw::Empty => "expected a size of at least 1",
+            Flaw::Widths => "expected two different sizes out of 1, 2, 4 and 8",
+            Flaw::Narrows => "an integer without a mark gets wider, not narrower",
+        }
+    }
+}
+
+impl fmt::Display for Flaw {
+    fn fmt<W: fmt::Write>(&self, f: &mut fmt::Formatter<W>) -> fmt::Result {
+        if let Some(field) = self.field() {
+            write!(f, "field {field}: ")?;
+        }
+        let message = self.message();
+        write!(f, "no plan (r16): {message}")
+    }
 }

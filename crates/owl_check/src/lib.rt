@@ -5,43 +5,36 @@
 pub mod flaw;
 pub mod lines;
 
+use flaw::Flaw;
+use lines::Seen;
 use std::io;
 
 const NEWLINE: u8 = b'\n';
 
-fn more(n: usize) -> usize {
-    if n < 1000000 {
-        return n + 1;
+// The first flaw, and the number of its line.
+fn look(text: &[u8]) -> Result<(), (usize, Flaw)> {
+    let mut seen = Seen::default();
+    let mut number: usize = 0;
+    for line in text.split_inclusive(|b| *b == NEWLINE) {
+        number = number.saturating_add(1);
+        let content = line.strip_suffix(b"\n").unwrap_or(line);
+        seen.look(content, number).map_err(|flaw| (number, flaw))?;
     }
-    n
-}
-
-// What is wrong once so many lines were looked at, of as many; the last one may be cut off before its end.
-fn say_end(stream: &impl Print, number: usize, lines: usize, cut: bool) -> io::Result<()> {
     if number < 2 {
-        flaw::say(stream, number + 1, flaw::MISSING)
-    } else if number != lines {
-        flaw::say(stream, number, flaw::STEP_COUNT)
-    } else if cut {
-        flaw::say(stream, number, flaw::NO_NEWLINE)
+        Err((number + 1, Flaw::Missing))
+    } else if number != seen.lines {
+        Err((number, Flaw::StepCount))
+    } else if !text.ends_with(b"\n") {
+        Err((number, Flaw::NoNewline))
     } else {
-        owl_say::to(stream, b": no plan (r16)\n")
+        Ok(())
     }
 }
 
 // Says so behind the file's name.
 pub fn say(stream: &impl Print, text: &[u8]) -> io::Result<()> {
-    let mut seen = [0usize; 4];
-    let mut number: usize = 0;
-    let mut at = 0;
-    while at < text.len() {
-        let end = caseline::find(text, at, NEWLINE);
-        number = more(number);
-        let why = lines::look(&text[at..end], number, &mut seen);
-        if why != 0 {
-            return flaw::say(stream, number, why);
-        }
-        at = end + 1;
+    match look(text) {
+        Err((line, flaw)) => println!(stream; ":{line}: {flaw}"),
+        Ok(()) => println!(stream; ": no plan (r16)"),
     }
-    say_end(stream, number, seen[lines::LINES], text.len() < at)
 }

@@ -5,11 +5,11 @@
 pub mod numbers;
 pub mod strip;
 
-use caseline::put;
-use numbers::Slot;
-use owl_say::form;
+use caseline::put::Hex;
+use numbers::{Plan, Slot};
 use std::io;
-use strip::Cells;
+use step::{Op, Step};
+use strip::{Cells, Run};
 
 // Most bytes of a default that a row shows.
 const SHOWN: usize = 16;
@@ -17,101 +17,112 @@ const SHOWN: usize = 16;
 // ---- what the plan is
 
 pub fn summary(stdout: &impl Print, slot: &Slot) -> io::Result<()> {
-    let steps = numbers::steps(slot) as usize;
-    form::say(
-        stdout,
-        b"plan of # steps\n  source  rtype #, base # bytes\n",
-        form::four(steps, numbers::number(slot, 0), numbers::number(slot, 4), 0),
-    )?;
-    let rtype = numbers::number(slot, 2);
-    let base = numbers::number(slot, 8);
-    form::say(
-        stdout,
-        b"  target  rtype #, base # bytes, header #, record # bytes\n",
-        form::four(rtype, base, numbers::header(slot), numbers::size(slot)),
+    let plan = Plan(slot);
+    let steps = plan.steps();
+    let source_rtype = plan.number(numbers::SOURCE_RTYPE);
+    let source_base = plan.number(numbers::SOURCE_BASE);
+    let rtype = plan.number(numbers::TARGET_RTYPE);
+    let base = plan.number(numbers::TARGET_BASE);
+    let header = plan.header();
+    let size = plan.size();
+    println!(stdout; "plan of {steps} steps")?;
+    println!(stdout; "  source  rtype {source_rtype}, base {source_base} bytes")?;
+    println!(stdout;
+        "  target  rtype {rtype}, base {base} bytes, header {header}, record {size} bytes"
     )
 }
 
 // ---- a row for each run of target bytes
 
 // What no step reaches.
-fn default_row(stdout: &impl Print, slot: &Slot, from: usize, to: usize) -> io::Result<()> {
-    if from < to {
-        let mut out = [0u8; 2 * SHOWN];
-        let bytes = numbers::body(slot, from, lent::lesser(to - from, SHOWN));
-        let end = put::octets(&mut out, 0, bytes);
-        form::say(stdout, b">..<  .  default ", form::two(from, to))?;
-        owl_say::out(stdout, lent::part(&out, 0, end))?;
-        if SHOWN < to - from {
-            owl_say::out(stdout, b"..")?;
-        }
-        owl_say::out(stdout, b"\n")?;
+fn default_row(stdout: &impl Print, plan: Plan<'_>, run: Run) -> io::Result<()> {
+    if run.to <= run.from {
+        return Ok(());
     }
-    Ok(())
+    let length = run.to - run.from;
+    let shown = Hex(plan.body(run.from, length.min(SHOWN)));
+    let more = if SHOWN < length { ".." } else { "" };
+    println!(stdout; "{run}  .  default {shown}{more}")
 }
 
 // The step's row, before it that of the bytes between, and its letters; the answer is where the step ends.
 fn step_rows(
     stdout: &impl Print,
-    slot: &Slot,
-    k: u8,
+    plan: Plan<'_>,
+    step: Step,
     before: usize,
     cells: &mut Cells,
 ) -> io::Result<usize> {
-    let at = slot::STEPS_FROM + step::packed::SIZE * (k as usize);
-    let from = numbers::number(slot, at + 4);
-    let to = numbers::number(slot, at + 6);
-    let size = numbers::number(slot, at + 8);
-    default_row(stdout, slot, before, to)?;
-    if lent::byte_at(slot, at) == 0 {
-        let end = to + size;
-        strip::fill(cells, to, end, b'C', b'c');
-        let ranges = form::four(to, end, from, from + size);
-        form::say(stdout, b">..<  c  source >..<", ranges)?;
-        form::say(stdout, b"  copy of #\n", form::one(size))?;
-        return Ok(end);
+    let target = Run {
+        from: step.target(),
+        to: step.end(),
+    };
+    let between = Run {
+        from: before,
+        to: target.from,
+    };
+    default_row(stdout, plan, between)?;
+    let to = step.source_end();
+    match step.op {
+        Op::Copy {
+            src_offset,
+            size,
+            ..
+        } => {
+            let from = usize::from(src_offset);
+            let source = Run { from, to };
+            cells.fill(target, b'C', b'c');
+            println!(stdout; "{target}  c  source {source}  copy of {size}")?;
+        }
+        Op::Int {
+            src_offset,
+            src_size,
+            dst_size,
+            signed,
+            has_undef_max,
+            ..
+        } => {
+            let from = usize::from(src_offset);
+            let source = Run { from, to };
+            let sign = if signed { 'i' } else { 'u' };
+            let bits = 8 * usize::from(src_size);
+            let wide = 8 * usize::from(dst_size);
+            let mark = if has_undef_max { ", marked" } else { "" };
+            cells.fill(target, b'I', b'i');
+            println!(stdout; "{target}  i  source {source}  {sign}{bits} to {sign}{wide}{mark}")?;
+        }
     }
-    let wide = numbers::number(slot, at + 10);
-    let end = to + wide;
-    strip::fill(cells, to, end, b'I', b'i');
-    let ranges = form::four(to, end, from, from + size);
-    form::say(stdout, b">..<  i  source >..<", ranges)?;
-    let words = caseline::word(
-        b"  u# to u#\n\t  i# to i#\n\t  u# to u#, marked\n\t  i# to i#, marked\n",
-        lent::byte_at(slot, at + 1) as usize + 2 * (lent::byte_at(slot, at + 2) as usize),
-    );
-    form::say(stdout, words, form::two(8 * size, 8 * wide))?;
-    Ok(end)
+    Ok(target.to)
 }
 
-fn rows(stdout: &impl Print, slot: &Slot, cells: &mut Cells) -> io::Result<()> {
-    let n = numbers::steps(slot);
-    let mut end = numbers::header(slot);
-    let mut k: u8 = 0;
-    while k < n {
-        end = step_rows(stdout, slot, k, end, cells)?;
-        k += 1;
+fn rows(stdout: &impl Print, plan: Plan<'_>, cells: &mut Cells) -> io::Result<()> {
+    let slot = plan.0;
+    let mut end = plan.header();
+    for step in slot::steps_in(slot, plan.steps()) {
+        end = step_rows(stdout, plan, step, end, cells)?;
     }
-    default_row(stdout, slot, end, numbers::size(slot))
+    let behind = Run {
+        from: end,
+        to: plan.size(),
+    };
+    default_row(stdout, plan, behind)
 }
 
 pub fn draw(stdout: &impl Print, slot: &Slot) -> io::Result<()> {
-    let mut cells = [b'.'; limits::MAX_BYTES];
-    let header = numbers::header(slot);
+    let plan = Plan(slot);
+    // Nothing is drawn yet: each byte has its default.
+    let mut cells = Cells([b'.'; limits::MAX_BYTES]);
+    let header = Run {
+        from: 0,
+        to: plan.header(),
+    };
     summary(stdout, slot)?;
-    owl_say::out(stdout, b"\n  target bytes   what they are\n")?;
-    if header != 0 {
-        form::say(
-            stdout,
-            b">..<  H  header, left as the host has it\n",
-            form::two(0, header),
-        )?;
-        strip::fill(&mut cells, 0, header, b'H', b'H');
+    println!(stdout; "\n  target bytes   what they are")?;
+    if header.to != 0 {
+        println!(stdout; "{header}  H  header, left as the host has it")?;
+        cells.fill(header, b'H', b'H');
     }
-    rows(stdout, slot, &mut cells)?;
-    strip::say(stdout, &cells, numbers::size(slot))?;
-    owl_say::out(
-        stdout,
-        b"\n\n  H header   C copied   I integer   . default; a capital begins a step\n",
-    )
+    rows(stdout, plan, &mut cells)?;
+    cells.say(stdout, plan.size())?;
+    println!(stdout; "\n\n  H header   C copied   I integer   . default; a capital begins a step")
 }

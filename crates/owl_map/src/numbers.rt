@@ -3,32 +3,57 @@ ghost use Rattle.std.specs.Prelude.{◌<◌, ◌≤◌};
 
 pub type Slot = [u8; slot::SIZE];
 
-pub fn number(slot: &Slot, at: usize) -> usize
-    requires { at < 65536 }
-    ensures { result < 65536 }
-{
-    lent::u16_at(slot, at) as usize
-}
+// Where the head's numbers stand.
+pub const SOURCE_RTYPE: usize = 0;
 
-pub fn header(slot: &Slot) -> usize
-    ensures { result < 65536 }
-{
-    number(slot, 6)
-}
+pub const TARGET_RTYPE: usize = 2;
 
-pub fn size(slot: &Slot) -> usize
-    ensures { result ≤ 4096 }
-{
-    lent::lesser(number(slot, 10), limits::MAX_BYTES)
-}
+pub const SOURCE_BASE: usize = 4;
 
-pub fn steps(slot: &Slot) -> u8 {
-    (lent::lesser(number(slot, 12), limits::MAX_STEPS) % 256) as u8
-}
+pub const HEADER: usize = 6;
 
-// n bytes of the default body, from the target's byte `from` on.
-pub fn body(slot: &Slot, from: usize, n: usize) -> &[u8] {
-    let first = header(slot);
-    let start = lent::greater(lent::lesser(from, limits::MAX_BYTES), first) - first;
-    lent::part(slot, slot::BODY_FROM + start, n)
+pub const TARGET_BASE: usize = 8;
+
+pub const TARGET_SIZE: usize = 10;
+
+pub const STEPS: usize = 12;
+
+/// A plan that lies in its slot.
+#[derive(Clone, Copy)]
+pub struct Plan<'a>(pub &'a Slot);
+
+impl<'a> Plan<'a> {
+    pub fn number(self, at: usize) -> usize
+        requires { at < 65536 }
+        ensures { result < 65536 }
+    {
+        let slot = self.0;
+        usize::from(lent::u16_at(slot, at))
+    }
+
+    pub fn header(self) -> usize
+        ensures { result < 65536 }
+    {
+        self.number(HEADER)
+    }
+
+    pub fn size(self) -> usize
+        ensures { result ≤ 4096 }
+    {
+        self.number(TARGET_SIZE).min(limits::MAX_BYTES)
+    }
+
+    // How many.
+    pub fn steps(self) -> usize
+        ensures { result ≤ 128 }
+    {
+        self.number(STEPS).min(limits::MAX_STEPS)
+    }
+
+    // n bytes of the default body, from the target's byte `from` on.
+    pub fn body(self, from: usize, n: usize) -> &'a [u8] {
+        let start = from.min(limits::MAX_BYTES).saturating_sub(self.header());
+        let slot = self.0;
+        lent::part(slot, slot::BODY_FROM + start, n)
+    }
 }

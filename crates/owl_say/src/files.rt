@@ -1,171 +1,114 @@
 // The file that an argument names, read whole.
-ghost use Rattle.std.specs.Prelude.{◌≤◌, length};
+ghost use Rattle.std.specs.Prelude.{◌≡◌, ◌<◌, ◌≤◌, ℕ, List, length, take, IfOk};
 
-use caseline::{input, put};
+use arrayvec::ArrayString;
+use caseline::input;
 use std::env::FillError;
 use std::fmt::Write;
+use std::marker::Model;
 use std::rt::{Env, Files};
 use std::{fmt, fs, io, str};
 
 // More than the longest plan text, and room for some two thousand lines of layouts.
 pub const ROOM: usize = 65536;
 
-pub type Text = [u8; ROOM];
-
 // More than the longest path.
 pub const WORD: usize = 4096;
 
+/// At most `N` bytes.
 #[derive(Drop)]
-pub enum Loaded {
-    Bytes(usize),
-    Failed,
+pub struct Bytes<const N: usize> {
+    room: [u8; N],
+    length: usize,
 }
+
+// Clauses see the bytes.
+impl<const N: usize> Model for Bytes<N> {
+    ghost Value = { List ℕ };
+
+    ghost view = { λ b. take b.length b.room };
+
+    ghost invariant = { λ b. b.length ≤ N };
+}
+
+impl<const N: usize> Bytes<N> {
+    pub fn as_slice(&self) -> &[u8]
+        ensures { result.now ≡ self.now }
+    {
+        &self.room[..self.length]
+    }
+}
+
+pub type Text = Bytes<ROOM>;
+
+pub type Word = Bytes<WORD>;
 
 // ---- arguments
 
 // Whether there is an argument k, counted from the command's own name.
 pub fn has_arg(rt: &impl Env, k: usize) -> bool {
-    let mut byte = [0u8; 1];
-    match rt.arg(k, &mut byte) {
-        Err(FillError::NotPresent) => false,
-        _ => true,
-    }
+    !matches!(rt.arg(k, &mut [0]), Err(FillError::NotPresent))
 }
 
-// Puts argument k at the start of word and tells how many bytes; none where there is no such argument, or where it does not fit.
-pub fn arg(rt: &impl Env, k: usize, word: &mut [u8]) -> usize
-    ensures { result ≤ length word.new }
-{
-    rt.arg(k, word).unwrap_or(0)
+// Argument k, where there is one that fits.
+pub fn arg(rt: &impl Env, k: usize) -> Result<Word, FillError> {
+    let mut room = [0; WORD];
+    let length = rt.arg(k, &mut room)?;
+    Ok(Bytes { room, length })
 }
 
 pub fn say_arg(rt: &impl Env, stream: &impl Print, k: usize) -> io::Result<()> {
-    let mut word = [0u8; WORD];
-    let n = arg(rt, k, &mut word);
-    crate::to(stream, &word[..n])
-}
-
-pub fn complain_arg(rt: &impl Env, stderr: &impl Print, k: usize) -> io::Result<()> {
-    say_arg(rt, stderr, k)
+    match arg(rt, k) {
+        Ok(word) => stream.write_all(word.as_slice()),
+        Err(_) => Ok(()),
+    }
 }
 
 // ---- files
 
-// The system's words for an error, as they come: as many as fit.
+// Why a file is not taken.
 #[derive(Drop)]
-struct Words {
-    text: [u8; 256],
-    end: usize,
+pub(crate) enum Unread {
+    System(io::Error),
+    NotUtf8,
+    Empty,
+    TooLong,
 }
 
-impl Write for Words {
-    fn write_str(&mut self, s: &str) -> fmt::Result {
-        self.end = put::text(&mut self.text, self.end, s.as_bytes());
-        Ok(())
+impl From<io::Error> for Unread {
+    fn from(error: io::Error) -> Unread {
+        Unread::System(error)
     }
 }
 
-// Those words, without the number that stands in brackets behind them.
-fn fail(stderr: &impl Print, what: &[u8], error: io::Error) -> io::Result<()> {
-    let mut words = Words {
-        text: [0; 256],
-        end: 0,
-    };
-    let _ = write!(words, "{error}");
-    let text = lent::part(&words.text, 0, words.end);
-    let end = caseline::find(text, 0, b'(');
-    crate::complain(stderr, what)?;
-    crate::complain(stderr, b": ")?;
-    crate::complain(stderr, text[..end].trim_ascii_end())?;
-    crate::complain(stderr, b"\n")
-}
-
-fn read(rt: &impl Files, stderr: &impl Print, path: &str, text: &mut Text) -> io::Result<Loaded> {
-    let name = path.as_bytes();
-    let mut file = match fs::open(rt, path) {
-        Ok(file) => file,
-        Err(e) => {
-            fail(stderr, name, e)?;
-            return Ok(Loaded::Failed);
-        }
-    };
-    let n = match input::read_full(&mut file, text) {
-        Ok(n) => n,
-        // One that cannot be read, as a directory.
-        Err(e) => {
-            fail(stderr, name, e)?;
-            return Ok(Loaded::Failed);
-        }
-    };
-    // A file that ends at once.
-    if n == 0 {
-        crate::complain(stderr, name)?;
-        crate::complain(stderr, b": an empty file\n")?;
-        return Ok(Loaded::Failed);
-    }
-    // A full room: there may be more.
-    if n == ROOM {
-        crate::complain(stderr, name)?;
-        crate::complain(
-            stderr,
-            b": longer than 65535 bytes, the most that is read\n",
-        )?;
-        return Ok(Loaded::Failed);
-    }
-    Ok(Loaded::Bytes(n))
-}
-
-// The file that argument k names.
-pub fn load(
-    rt: &(impl Env + Files),
-    stderr: &impl Print,
-    k: usize,
-    text: &mut Text,
-) -> io::Result<Loaded> {
-    let mut name = [0u8; WORD];
-    let length = match rt.arg(k, &mut name) {
-        Ok(n) => n,
-        Err(FillError::TooLong) => {
-            crate::complain(stderr, b"owl: the file's name: File name too long\n")?;
-            return Ok(Loaded::Failed);
-        }
-        Err(FillError::NotPresent) => {
-            crate::complain(stderr, b"owl: the file's name: Invalid argument\n")?;
-            return Ok(Loaded::Failed);
-        }
-    };
-    match str::from_utf8(&name[..length]) {
-        Ok(path) => read(rt, stderr, path, text),
-        Err(_) => {
-            crate::complain(stderr, &name[..length])?;
-            crate::complain(stderr, b": a file's name that is not UTF-8\n")?;
-            Ok(Loaded::Failed)
+impl fmt::Display for Unread {
+    fn fmt<W: fmt::Write>(&self, f: &mut fmt::Formatter<W>) -> fmt::Result {
+        match self {
+            Unread::System(error) => {
+                // The system's words, without the number that stands in brackets behind them.
+                let mut words: ArrayString<256> = ArrayString::new();
+                let _ = write!(words, "{error}");
+                let all = words.as_str();
+                let end = all.find('(').unwrap_or(all.len());
+                f.write_str(all[..end].trim_ascii_end())
+            }
+            Unread::NotUtf8 => f.write_str("a file's name that is not UTF-8"),
+            Unread::Empty => f.write_str("an empty file"),
+            Unread::TooLong => f.write_str("longer than 65535 bytes, the most that is read"),
         }
     }
 }
 
-// The file behind the command, which has at most so many words, its own name among them.
-pub fn load_second(
-    rt: &(impl Env + Files),
-    stderr: &impl Print,
-    text: &mut Text,
-    most: usize,
-) -> io::Result<Loaded> {
-    if !has_arg(rt, 2) {
-        crate::complain(
-            stderr,
-            b"owl: a file is missing behind the command; 'owl help' says what each takes\n",
-        )?;
-        return Ok(Loaded::Failed);
+pub(crate) fn read(rt: &impl Files, path: &str) -> Result<Text, Unread>
+    ensures { IfOk result (λ text. (0 < length text) × (length text < ROOM)) }
+{
+    let mut file = fs::open(rt, path)?;
+    let mut room = [0; ROOM];
+    match input::read_full(&mut file, &mut room)? {
+        // A file that ends at once.
+        0 => Err(Unread::Empty),
+        // A full room: there may be more.
+        ROOM => Err(Unread::TooLong),
+        length => Ok(Bytes { room, length }),
     }
-    if has_arg(rt, most) {
-        crate::complain(stderr, b"owl: '")?;
-        complain_arg(rt, stderr, most)?;
-        crate::complain(
-            stderr,
-            b"': a word too many; 'owl help' says what each command takes\n",
-        )?;
-        return Ok(Loaded::Failed);
-    }
-    load(rt, stderr, 2, text)
 }

@@ -1,20 +1,6 @@
-// What is written: results to standard output, messages to standard error.
+// What the programs read by their arguments, and what they say of it: results to standard output, messages to standard error.
 #![tactic(auto)]
 
+pub mod console;
 pub mod files;
-pub mod form;
 pub mod refusals;
-
-use std::io;
-
-pub fn to(stream: &impl Print, text: &[u8]) -> io::Result<()> {
-    stream.write_all(text)
-}
-
-pub fn out(stdout: &impl Print, text: &[u8]) -> io::Result<()> {
-    to(stdout, text)
-}
-
-pub fn complain(stderr: &impl Print, text: &[u8]) -> io::Result<()> {
-    to(stderr, text)
-}

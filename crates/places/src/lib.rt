@@ -1,70 +1,54 @@
 // Where a source's first field of an id stands: an index by the low byte of the id, which tells most ids of a table apart.
 #![tactic(auto)]
 
-ghost use Rattle.std.specs.Prelude.{◌≡◌, ◌*◌, ◌%◌, ◌<◌, ◌≤◌, length, get_or};
+ghost use Rattle.std.specs.Prelude.{◌≡◌, ◌*◌, ◌≤◌, length, Some, None};
 ghost use Rattle.limits.specs.Limits.{max_fields};
+ghost use Rattle.lent.specs.Scan.{first};
 ghost use Rattle.field.specs.Field.{fields_of};
-ghost use Rattle.places.specs.Places.{place_of, IndexOf};
+ghost use Rattle.places.specs.Places.{has_id, place_of, IndexOf};
 
-// A place as the index holds it: one more than it is, since 0 is none.
-fn in_a_byte(n: usize) -> u8
-    requires { n ≤ max_fields }
-    ensures { result ≡ n }
-{
-    n as u8
+use field::FieldDef;
+use field::rows::rows_of;
+
+// A table, and for each low byte the place of the first field whose id has it.
+#[derive(Drop)]
+pub struct Index<'a> {
+    pub table: &'a [u8],
+    pub firsts: [Option<u8>; 256],
+    ghost holds: { IndexOf (fields_of table.now) firsts },
 }
 
-// From the last field to the first, so that the first of a low byte stays.
-pub fn index(t: &[u8]) -> [u8; 256]
-    requires { length t.now ≤ 16 * max_fields }
-    ensures { IndexOf (fields_of t.now) result }
-{
-    let n = t.len() / field::SIZE;
-    let mut index = [0u8; 256];
-    let mut left = n;
-    while left != 0 {
-        let k = left - 1;
-        let low = lent::wide8(t[field::SIZE * k]);
-        index[low] = in_a_byte(k + 1);
-        left -= 1;
-    }
-    index
-}
-
-fn scan(t: &[u8], id: u16) -> usize
-    ensures { result ≡ place_of id (fields_of t.now) }
-{
-    let n = t.len() / field::SIZE;
-    let mut k = 0;
-    while k < n {
-        let at = field::SIZE * k;
-        k += 1;
-        if lent::u16_in(t, at) == id {
-            return k;
+impl<'a> Index<'a> {
+    // From the last field to the first, so that the first of a low byte stays. A place fits a byte.
+    pub fn of(table: &'a [u8]) -> Index<'a>
+        requires { length table.now ≤ 16 * max_fields }
+        ensures { result.table.now ≡ table.now }
+    {
+        let mut firsts = [None; 256];
+        for k in (0..table.len() / field::SIZE).rev() {
+            let low = usize::from(lent::u16_in(table, field::SIZE * k) % 256);
+            firsts[low] = Some(k as u8);
         }
+        Index { table, firsts }
     }
-    0
-}
 
-// What the index has for an id.
-fn entry_of(index: &[u8; 256], id: u16) -> usize
-    ensures { (result ≡ get_or index.now (id % 256) 0) × (result < 256) }
-{
-    let low = lent::wide8(lent::store::low(id));
-    lent::wide8(index[low])
-}
+    // The place of the first field of an id. Two ids of one low byte are rare: only then is the table searched.
+    pub fn find(&self, id: u16) -> Option<usize>
+        ensures { result ≡ place_of id (fields_of self.now.table.now) }
+    {
+        let table = self.table;
+        let place = usize::from(self.firsts[usize::from(id % 256)]?);
+        if lent::u16_in(table, field::SIZE * place) == id {
+            return Some(place);
+        }
+        rows_of(table).position(|f| f.field_id == id)
+    }
 
-// One more than the place, 0 where there is none. Two ids of one low byte are rare: only then is the table searched.
-pub fn find(t: &[u8], index: &[u8; 256], id: u16) -> usize
-    requires { IndexOf (fields_of t.now) index.now }
-    ensures { result ≡ place_of id (fields_of t.now) }
-{
-    let place = entry_of(index, id);
-    if place == 0 {
-        return 0;
+    // The first field of an id.
+    pub fn first(&self, id: u16) -> Option<FieldDef>
+        ensures { result ≡ first (has_id id) Some None (fields_of self.now.table.now) }
+    {
+        let place = self.find(id)?;
+        Some(field::field_in(self.table, field::SIZE * place))
     }
-    if lent::u16_in(t, field::SIZE * (place - 1)) == id {
-        return place;
-    }
-    scan(t, id)
 }

@@ -1,31 +1,30 @@
 // op_for of dbn's upgrade.rs: what a source field brings to a target field of its id.
 ghost use Rattle.std.specs.Prelude.{◌≡◌, ◌+◌, ◌≤◌, length};
-ghost use Rattle.lent.specs.Scan.{first};
 ghost use Rattle.field.specs.Field.{fields_of, is_signed};
 ghost use Rattle.step.specs.Step.{copy, int};
-ghost use Rattle.places.specs.Places.{IndexOf};
-ghost use Rattle.plan_rules.specs.Rule.{step_for, is_marked, want_at, same_id, step_of};
+ghost use Rattle.plan_rules.specs.Rule.{step_for, is_marked, want_at, step_of};
 
 use field::{FieldDef, pair};
-use plan_rules::Carried;
+use places::Index;
+use plan_rules::Want;
 use step::{Op, Step};
 
-fn copy(have: FieldDef, want: FieldDef, size: u16) -> Carried
-    ensures { result ≡ Carried.By (copy have.offset want.offset size) }
+fn copy(have: FieldDef, want: FieldDef, size: u16) -> Step
+    ensures { result ≡ copy have.offset want.offset size }
 {
-    Carried::By(Step {
+    Step {
         op: Op::Copy {
             src_offset: have.offset,
             dst_offset: want.offset,
-            size: size,
+            size,
         },
-    })
+    }
 }
 
-fn int(cat: &[u8], have: FieldDef, want: FieldDef, marked: bool) -> Carried
-    ensures { result ≡ Carried.By (int have.offset want.offset have.size want.size (is_signed cat.now have) marked) }
+fn int(cat: &[u8], have: FieldDef, want: FieldDef, marked: bool) -> Step
+    ensures { result ≡ int have.offset want.offset have.size want.size (is_signed cat.now have) marked }
 {
-    Carried::By(Step {
+    Step {
         op: Op::Int {
             src_offset: have.offset,
             dst_offset: want.offset,
@@ -34,69 +33,56 @@ fn int(cat: &[u8], have: FieldDef, want: FieldDef, marked: bool) -> Carried
             signed: field::is_signed(cat, have),
             has_undef_max: marked,
         },
-    })
+    }
 }
 
-pub fn op_for(cat: &[u8], have: FieldDef, want: FieldDef, marked: bool) -> Carried
+// None: the target field has its default.
+pub fn op_for(cat: &[u8], have: FieldDef, want: FieldDef, marked: bool) -> Option<Step>
     ensures { result ≡ step_for cat.now have want marked }
 {
     if pair::same_kind(cat, have, want) {
-        return copy(have, want, want.size);
+        return Some(copy(have, want, want.size));
     }
     if pair::apart(cat, have, want) {
-        return Carried::Default;
+        return None;
     }
     if field::is_string(cat, have) & field::is_string(cat, want) {
         if have.size <= want.size {
-            return copy(have, want, have.size);
+            return Some(copy(have, want, have.size));
         }
-        return Carried::Default;
+        return None;
     }
     if pair::same_sign(cat, have, want) & ((have.size < want.size) | marked) {
-        return int(cat, have, want, marked);
+        return Some(int(cat, have, want, marked));
     }
-    Carried::Default
-}
-
-fn from_first(cat: &[u8], src: &[u8], index: &[u8; 256], want: FieldDef, marked: bool) -> Carried
-    requires { IndexOf (fields_of src.now) index.now }
-    ensures { result ≡ first (same_id want) (λ have. step_for cat.now have want marked) Carried.Default (fields_of src.now) }
-{
-    let place = places::find(src, index, want.field_id);
-    if place == 0 {
-        return Carried::Default;
-    }
-    op_for(
-        cat,
-        field::field_in(src, field::SIZE * (place - 1)),
-        want,
-        marked,
-    )
+    None
 }
 
 // Marks are a byte a field; there is none past the end.
 pub fn is_marked(cat: &[u8], marks: &[u8], k: usize, f: FieldDef) -> bool
     ensures { result ≡ is_marked cat.now marks.now k f }
 {
-    !(lent::byte_at(marks, k) == 0) & field::is_plain_integer(cat, f)
+    lent::byte_at(marks, k) != 0 && field::is_plain_integer(cat, f)
 }
 
-// Of the target field at a place of its table, the source's index beside the source.
-pub fn step_of(
-    cat: &[u8],
-    src: &[u8],
-    index: &[u8; 256],
-    dst: &[u8],
-    marks: &[u8],
-    at: usize,
-) -> Carried
-    requires { (at + 16 ≤ length dst.now) × IndexOf (fields_of src.now) index.now }
-    ensures { result ≡ step_of cat.now (fields_of src.now) (want_at cat.now marks.now dst.now at) }
+// The field at a place of the target's table.
+pub fn want_at(cat: &[u8], marks: &[u8], table: &[u8], at: usize) -> Want
+    requires { at + 16 ≤ length table.now }
+    ensures { result ≡ want_at cat.now marks.now table.now at }
 {
-    let want = field::field_in(dst, at);
-    if !field::counts(cat, want) {
-        return Carried::Default;
+    let def = field::field_in(table, at);
+    Want {
+        def,
+        marked: is_marked(cat, marks, at / field::SIZE, def),
     }
-    let marked = is_marked(cat, marks, at / field::SIZE, want);
-    from_first(cat, src, index, want, marked)
+}
+
+pub fn step_of(cat: &[u8], source: &Index, want: Want) -> Option<Step>
+    ensures { result ≡ step_of cat.now (fields_of source.now.table.now) want }
+{
+    if !field::counts(cat, want.def) {
+        return None;
+    }
+    let have = source.first(want.def.field_id)?;
+    op_for(cat, have, want.def, want.marked)
 }

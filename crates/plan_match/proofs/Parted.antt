@@ -1,6 +1,7 @@
 -- A text compared part by part with what would be written. Assumes nothing.
 use mathlib.Core.Path.{◌≡◌, refl, sym, ap, ◌∙◌}
-use mathlib.Core.Bool.{Bool, true, false, ◌&&◌}
+use mathlib.Core.Bool.{Bool, true, false, cond, ◌&&◌}
+use Rattle.std.specs.Prelude.{Some, None}
 use mathlib.Core.List.{List, [], ◌∷◌, ◌++◌, append_assoc}
 use Prim.Native.Nat.{ℕ, zero, suc, ◌+◌, ◌-◌, ◌*◌, ◌≤◌, ◌<◌}
 use native.Mathlib.Omega.{arith}
@@ -10,7 +11,7 @@ use lib.Dec.{eqb}
 use Rattle.lent.specs.Bytes.{byte_at, number_at, window}
 use Rattle.lent.specs.Scan.{alike}
 use Rattle.lent.proofs.Scan.{unlike}
-use Rattle.step.specs.Packed.{step_at, steps_at}
+use Rattle.step.specs.declared.Step.{Step}
 use Rattle.slot.specs.Slot.{body_from, header_in, size_in}
 use Rattle.decimal.specs.Put.{Put}
 use Rattle.decimal.specs.Hex.{hex}
@@ -20,9 +21,9 @@ use Rattle.decimal.proofs.Nibbles.{hex-length}
 use Rattle.plan_text.specs.Text.{newline, body_line, step_line, step_lines}
 use Rattle.plan_text.specs.Held.{Held, tabbed, head_in}
 use Rattle.plan_text.specs.Writing.{text_in}
-use Rattle.plan_text.proofs.Laid.{wide-most, tabbed-length, head-length, steps-turn, steps-none}
+use Rattle.plan_text.proofs.Laid.{wide-most, tabbed-length, head-length, lines-turn, lines-none}
 use Rattle.plan_text.proofs.Whole.{body_in, steps_in, text-parts, text-length, body-wide}
-use Rattle.plan_match.specs.Stands.{body_stands}
+use Rattle.plan_match.specs.Stands.{stood, body_stands}
 
 -- ---- two parts
 
@@ -44,6 +45,26 @@ alike_at a b t at = alike-parts a b (drop at t) ∙ rw (drop-drop (length a) at 
 pub put-in-line : {line : List ℕ} {n : ℕ} {what : List ℕ} (k : ℕ) → Put (replicate k 0) 0 what line n → length what ≤ k → take n line ≡ what
 put-in-line k p h = put-start p (rw (length-replicate {A = ℕ} k 0) h)
 
+module _ (line t : List ℕ) (at : ℕ) where
+  module _ (b : Bool) (e : b ≡ alike eqb line (window t at (length line))) where
+    pub not-stood : b ≡ false → None ≡ stood line t at
+    not-stood f = rw (← e, f)
+
+    pub stood-there : (n : ℕ) → n ≡ length line → b ≡ true → Some n ≡ stood line t at
+    stood-there n w f = rw (← e, f, w)
+
+  pub stood-some : {n : ℕ} → Some n ≡ stood line t at → (alike eqb line (window t at (length line)) ≡ true) × (n ≡ length line)
+  stood-some {n = n} = go (alike eqb line (window t at (length line))) refl where
+    go : (b : Bool) → alike eqb line (window t at (length line)) ≡ b → Some n ≡ cond b (Some (length line)) None → (alike eqb line (window t at (length line)) ≡ true) × (n ≡ length line)
+    go true e z = (e, cc)
+    go false e z = absurd (let y : ◌≡◌ {A = ℕ} 0 1 = cc in let x : ⊥ = omega arith in x)
+
+  pub stood-none : None ≡ stood line t at → alike eqb line (window t at (length line)) ≡ false
+  stood-none = go (alike eqb line (window t at (length line))) refl where
+    go : (b : Bool) → alike eqb line (window t at (length line)) ≡ b → None ≡ cond b (Some (length line)) None → alike eqb line (window t at (length line)) ≡ false
+    go true e z = absurd (let y : ◌≡◌ {A = ℕ} 0 1 = cc in let x : ⊥ = omega arith in x)
+    go false e z = e
+
 tabbed-most : (slot : List ℕ) (at n : ℕ) → length (tabbed slot at n) ≤ 6 * n
 unfolding tabbed
 tabbed-most slot at zero = omega arith
@@ -59,21 +80,23 @@ head-most slot = omega (arith, head-length slot, tabbed-most slot 0 6, wide-most
 
 -- ---- a turn over the steps
 
-module _ (slot t : List ℕ) (from left next : ℕ) (all : Bool) (so : alike eqb (step_lines (steps_at slot from left)) (drop next t) ≡ all) where
-  turned : 0 < left → (alike eqb (step_line (step_at slot from).op) (window t next (length (step_line (step_at slot from).op)))
-      && alike eqb (step_lines (steps_at slot (from + 16) (left - 1))) (drop (next + length (step_line (step_at slot from).op)) t)) ≡ all
-  turned h = sym (alike_at (step_line (step_at slot from).op) (step_lines (steps_at slot (from + 16) (left - 1))) t next) ∙ (rw (steps-turn slot from left h) at so)
+module _ {left : List Step} (t : List ℕ) (next : ℕ) {all : Bool} (so : alike eqb (step_lines left) (drop next t) ≡ all) where
+  turned : {s : Step} {others : List Step} → left ≡ s ∷ others
+      → (alike eqb (step_line s.op) (window t next (length (step_line s.op))) && alike eqb (step_lines others) (drop (next + length (step_line s.op)) t)) ≡ all
+  turned {s = s} {others = others} e = sym (alike_at (step_line s.op) (step_lines others) t next) ∙ (rw (lines-turn e) at so)
 
-  pub steps-stop : (b : Bool) → 0 < left → b ≡ alike eqb (step_line (step_at slot from).op) (window t next (length (step_line (step_at slot from).op))) → b ≡ false → false ≡ all
-  steps-stop b h e f = let z = turned h in rw (← e, f) at z
+  pub steps-stop : {s : Step} {others : List Step} → left ≡ s ∷ others → None ≡ stood (step_line s.op) t next → false ≡ all
+  steps-stop {s = s} e n = let z = turned e in rw (stood-none (step_line s.op) t next n) at z
 
-  pub steps-go : (b : Bool) (wide : ℕ) → 0 < left → b ≡ alike eqb (step_line (step_at slot from).op) (window t next (length (step_line (step_at slot from).op))) → b ≡ true
-      → wide ≡ length (step_line (step_at slot from).op) → alike eqb (step_lines (steps_at slot (from + 16) (left - 1))) (drop (next + wide) t) ≡ all
-  steps-go b wide h e f w = let z = turned h in rw w (rw (← e, f) at z)
+  pub steps-go : {s : Step} {others : List Step} (wide : ℕ) → left ≡ s ∷ others → Some wide ≡ stood (step_line s.op) t next → alike eqb (step_lines others) (drop (next + wide) t) ≡ all
+  steps-go {s = s} wide e n =
+      let f = stood-some (step_line s.op) t next n in
+      let z = turned e in
+      rw f.1 (rw f.0 at z)
 
-  pub steps-end : left ≡ 0 → length t ≤ next → true ≡ all
+  pub steps-end : left ≡ [] → length t ≤ next → true ≡ all
   unfolding alike
-  steps-end e h = rw (steps-none slot from left e, drop_of_length-le t {i = next} h) at so
+  steps-end e h = rw (lines-none e, drop_of_length-le t {i = next} h) at so
 
 -- ---- the whole text
 

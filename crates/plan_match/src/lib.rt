@@ -10,7 +10,7 @@ ghost use Rattle.step.specs.Packed.{steps_at};
 ghost use Rattle.plan_text.specs.Held.{Held, head_in};
 ghost use Rattle.plan_text.specs.Text.{step_line, step_lines};
 ghost use Rattle.plan_text.specs.Writing.{text_in};
-ghost use Rattle.plan_match.specs.Stands.{body_stands};
+ghost use Rattle.plan_match.specs.Stands.{stood, body_stands};
 
 use plan_text::{lengths, lines};
 use step::Step;
@@ -28,23 +28,17 @@ fn stands(line: &[u8], n: usize, text: &[u8], at: usize) -> bool
     lent::same(&line[..n], lent::window(text, at, n))
 }
 
-// Whether a line stands there, and how long it is.
-#[derive(Clone, Copy)]
-pub struct Stood {
-    pub there: bool,
-    pub wide: usize,
-}
-
-fn head_stands(slot: &[u8], text: &[u8]) -> Stood
+// How long the head line is, where it stands at the start.
+fn head_stands(slot: &[u8], text: &[u8]) -> Option<usize>
     requires { length slot.now ≡ slot_size }
-    ensures { (result.there ≡ alike eqb (head_in slot.now) (window text.now 0 (length (head_in slot.now)))) × (result.wide ≡ length (head_in slot.now)) }
+    ensures { result ≡ stood (head_in slot.now) text.now 0 }
 {
     let mut line = [0u8; LINE];
     let n = lines::put_head(slot, &mut line, 0);
-    Stood {
-        there: stands(&line, n, text, 0),
-        wide: n,
+    if !stands(&line, n, text, 0) {
+        return None;
     }
+    Some(n)
 }
 
 fn body_stands(slot: &[u8], n: usize, text: &[u8], at: usize) -> bool
@@ -57,15 +51,16 @@ fn body_stands(slot: &[u8], n: usize, text: &[u8], at: usize) -> bool
     word & (hex & (NEWLINE == end))
 }
 
-fn step_stands(step: Step, text: &[u8], at: usize) -> Stood
-    ensures { (result.there ≡ alike eqb (step_line step.op) (window text.now at (length (step_line step.op)))) × (result.wide ≡ length (step_line step.op)) }
+// How long a step's line is, where it stands there.
+fn step_stands(step: Step, text: &[u8], at: usize) -> Option<usize>
+    ensures { result ≡ stood (step_line step.op) text.now at }
 {
     let mut line = [0u8; LINE];
     let n = lines::put_step(step, &mut line, 0);
-    Stood {
-        there: stands(&line, n, text, at),
-        wide: n,
+    if !stands(&line, n, text, at) {
+        return None;
     }
+    Some(n)
 }
 
 // Do the lines of the first `count` steps stand from `at` on, up to the end of the text?
@@ -74,16 +69,11 @@ fn steps_stand(slot: &[u8], count: usize, text: &[u8], at: usize) -> bool
     ensures { result ≡ alike eqb (step_lines (steps_at slot.now steps_from count)) (drop at text.now) }
 {
     let mut next = at;
-    let mut from = slot::STEPS_FROM;
-    let mut left = count;
-    while left != 0 {
-        let stood = step_stands(step::packed::step_in(slot, from), text, next);
-        if !stood.there {
+    for step in slot::steps_in(slot, count) {
+        let Some(wide) = step_stands(step, text, next) else {
             return false;
-        }
-        next += stood.wide;
-        from += step::packed::SIZE;
-        left -= 1;
+        };
+        next += wide;
     }
     true
 }
@@ -95,10 +85,11 @@ pub fn is_text(slot: &[u8], text: &[u8]) -> bool
     if text.len() != lengths::of_text(slot) {
         return false;
     }
-    let head = head_stands(slot, text);
-    let at = head.wide;
+    let Some(at) = head_stands(slot, text) else {
+        return false;
+    };
     let n = slot::check::number_at(slot, 10) - slot::check::number_at(slot, 6);
-    if !(head.there & body_stands(slot, n, text, at)) {
+    if !body_stands(slot, n, text, at) {
         return false;
     }
     steps_stand(slot, slot::check::number_at(slot, 12), text, at + 6 + 2 * n)

@@ -25,7 +25,7 @@ use Rattle.plan_text.specs.Writing.{text_in}
 use Rattle.plan_take.specs.Lenient.{numbers_as, steps_as, numbers_from, body_text_from, steps_text_from, header_as, size_as, count_as, plan_as, has_room}
 use Rattle.plan_read.specs.Reading.{accepts}
 use Rattle.plan_read.specs.Reading.{read_of, after_reading}
-use Rattle.plan_read.specs.declared.reader.ReadPlan.TheVariants.{Read, Refused}
+use Rattle.std.specs.Prelude.{Ok, Err}
 use Rattle.plan_take.proofs.Drawn.{drawn-length}
 use Rattle.plan_read.proofs.Theorems.{alike_self, alike_same, only, accepted}
 
@@ -178,19 +178,19 @@ judged t slot e = go (accepts t) (slot_ok slot && alike eqb (text_in slot) t) re
   go false false ea ej = refl
 
 module _ (t slot : List ℕ) where
-  pub says-short : length slot < slot_size → (Refused NoRoom ≡ read_of t slot) × (slot ≡ after_reading t slot)
+  pub says-short : length slot < slot_size → (Err NoRoom ≡ read_of t slot) × (slot ≡ after_reading t slot)
   unfolding read_of after_reading
   says-short h = (rw (lt-leb slot_size (length slot) h), rw (lt-leb slot_size (length slot) h))
 
   module _ (h : slot_size ≤ length slot) where
-    pub says-bad : accepts t ≡ false → (Refused BadPlan ≡ read_of t slot) × (slot ≡ after_reading t slot)
+    pub says-bad : accepts t ≡ false → (Err BadPlan ≡ read_of t slot) × (slot ≡ after_reading t slot)
     unfolding read_of after_reading
     says-bad a = (rw (le-leb slot_size (length slot) h, a), rw (le-leb slot_size (length slot) h, a))
 
-    pub says-crowded : has_room t ≡ false → (Refused BadPlan ≡ read_of t slot) × (slot ≡ after_reading t slot)
+    pub says-crowded : has_room t ≡ false → (Err BadPlan ≡ read_of t slot) × (slot ≡ after_reading t slot)
     says-crowded f = says-bad (no_room t f)
 
-    pub says-read : (new c₂ : List ℕ) → accepts t ≡ true → c₂ ≡ slot_of (plan_as t) → new ≡ sets slot 0 (window c₂ 0 slot_size) → (Read ≡ read_of t slot) × (new ≡ after_reading t slot)
+    pub says-read : (new c₂ : List ℕ) → accepts t ≡ true → c₂ ≡ slot_of (plan_as t) → new ≡ sets slot 0 (window c₂ 0 slot_size) → (Ok tt ≡ read_of t slot) × (new ≡ after_reading t slot)
     unfolding read_of after_reading
     says-read new c₂ a e w =
         let l = slot-long (plan_as t) (only t a).keeps in

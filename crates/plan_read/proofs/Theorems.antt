@@ -7,6 +7,7 @@ use lib.ListN.{length}
 use lib.Seq.{sets}
 use lib.Dec.{eqb, leb}
 use borrow.Author.Tests.{eq-eqb, eqb-true, le-leb, lt-leb, leb-true, leb-false}
+use Rattle.limits.specs.declared.refusal.Refusal.{Refusal}
 use Rattle.limits.specs.declared.refusal.Refusal.TheVariants.{BadPlan, NoRoom}
 use Rattle.lent.specs.Scan.{alike}
 use Rattle.lent.proofs.Scan.{both}
@@ -16,8 +17,7 @@ use Rattle.plan_text.specs.Text.{text_of}
 use Rattle.plan_take.specs.Lenient.{plan_as}
 use Rattle.plan_read.specs.Reading.{accepts}
 use Rattle.plan_read.specs.Reading.{IsTextOf, Reads, read_of, after_reading}
-use Rattle.plan_read.specs.declared.reader.ReadPlan.{ReadPlan}
-use Rattle.plan_read.specs.declared.reader.ReadPlan.TheVariants.{Read, Refused}
+use Rattle.std.specs.Prelude.{Result, Ok, Err}
 use Rattle.plan_read.proofs.Back.{plan-back}
 
 -- ---- equal lists
@@ -79,15 +79,15 @@ module _ (t slot : List ℕ) where
         go false e = refl
 
   -- and nothing else does
-  pub reads-one : (r : ReadPlan) (a : List ℕ) → Reads t slot r a → (r ≡ read_of t slot) × (a ≡ after_reading t slot)
+  pub reads-one : (r : Result Unit Refusal) (a : List ℕ) → Reads t slot r a → (r ≡ read_of t slot) × (a ≡ after_reading t slot)
   unfolding read_of after_reading
   reads-one r a k = go (leb slot_size (length slot)) (leb-true slot_size (length slot)) (leb-false slot_size (length slot)) where
     by : slot_size ≤ length slot → (b : Bool) → accepts t ≡ b
-        → (r ≡ cond b Read (Refused BadPlan)) × (a ≡ cond b (sets slot 0 (slot_of (plan_as t))) slot)
+        → (r ≡ cond b (Ok tt) (Err BadPlan)) × (a ≡ cond b (sets slot 0 (slot_of (plan_as t))) slot)
     by h true e = k.found h (plan_as t) (only t e)
     by h false e = k.none h (λ p w. absurd (false≢true (sym e ∙ accepted t p w)))
 
     go : (b : Bool) → (b ≡ true → slot_size ≤ length slot) → (b ≡ false → length slot < slot_size)
-        → (r ≡ cond b (cond (accepts t) Read (Refused BadPlan)) (Refused NoRoom)) × (a ≡ cond b (cond (accepts t) (sets slot 0 (slot_of (plan_as t))) slot) slot)
+        → (r ≡ cond b (cond (accepts t) (Ok tt) (Err BadPlan)) (Err NoRoom)) × (a ≡ cond b (cond (accepts t) (sets slot 0 (slot_of (plan_as t))) slot) slot)
     go true hi lo = by (hi refl) (accepts t) refl
     go false hi lo = k.short (lo refl)

@@ -1,14 +1,13 @@
 -- What the reader answers, and what it leaves: refusal 11, then 16 unless the text is the writer's own of some plan that keeps every rule.
-use Rattle.std.specs.Prelude.{ℕ, ◌≤◌, ◌<◌, ◌≡◌, Bool, true, cond, ◌&&◌, List, leb, eqb, length}
+use Rattle.std.specs.Prelude.{ℕ, ◌≤◌, ◌<◌, ◌≡◌, Bool, true, cond, ◌&&◌, List, Result, Ok, Err, leb, eqb, length}
 use Rattle.std.proofs.lemmas.List.Edits.{sets}
+use Rattle.limits.specs.declared.refusal.Refusal.{Refusal}
 use Rattle.limits.specs.declared.refusal.Refusal.TheVariants.{BadPlan, NoRoom}
 use Rattle.lent.specs.Scan.{alike}
 use Rattle.slot.specs.Plan.{Plan, plan_ok}
 use Rattle.slot.specs.Slot.{slot_size, slot_of}
 use Rattle.plan_text.specs.Text.{text_of}
 use Rattle.plan_take.specs.Lenient.{plan_as}
-use Rattle.plan_read.specs.declared.reader.ReadPlan.{ReadPlan}
-use Rattle.plan_read.specs.declared.reader.ReadPlan.TheVariants.{Read, Refused}
 
 -- ---- the promise, which says nothing of how a text is read
 
@@ -19,10 +18,10 @@ pub record IsTextOf (t : List ℕ) (p : Plan) : Type 0 where
 
 -- accepted exactly when there is such a plan, and then the slot's bytes are that plan's, zero wherever it does not reach; what stands
 -- past them is as it was. Refused: all is as it was
-pub record Reads (t slot : List ℕ) (answer : ReadPlan) (after : List ℕ) : Type 0 where
-  pub short : length slot < slot_size → (answer ≡ Refused NoRoom) × (after ≡ slot)
-  pub found : slot_size ≤ length slot → (p : Plan) → IsTextOf t p → (answer ≡ Read) × (after ≡ sets slot 0 (slot_of p))
-  pub none : slot_size ≤ length slot → ((p : Plan) → IsTextOf t p → ⊥) → (answer ≡ Refused BadPlan) × (after ≡ slot)
+pub record Reads (t slot : List ℕ) (answer : Result Unit Refusal) (after : List ℕ) : Type 0 where
+  pub short : length slot < slot_size → (answer ≡ Err NoRoom) × (after ≡ slot)
+  pub found : slot_size ≤ length slot → (p : Plan) → IsTextOf t p → (answer ≡ Ok tt) × (after ≡ sets slot 0 (slot_of p))
+  pub none : slot_size ≤ length slot → ((p : Plan) → IsTextOf t p → ⊥) → (answer ≡ Err BadPlan) × (after ≡ slot)
 
 -- ---- the same, computed
 
@@ -30,8 +29,8 @@ pub record Reads (t slot : List ℕ) (answer : ReadPlan) (after : List ℕ) : Ty
 unfoldable pub accepts : List ℕ → Bool
 accepts t = plan_ok (plan_as t) && alike eqb (text_of (plan_as t)) t
 
-unfoldable pub read_of : List ℕ → List ℕ → ReadPlan
-read_of t slot = cond (leb slot_size (length slot)) (cond (accepts t) Read (Refused BadPlan)) (Refused NoRoom)
+unfoldable pub read_of : List ℕ → List ℕ → Result Unit Refusal
+read_of t slot = cond (leb slot_size (length slot)) (cond (accepts t) (Ok tt) (Err BadPlan)) (Err NoRoom)
 
 unfoldable pub after_reading : List ℕ → List ℕ → List ℕ
 after_reading t slot = cond (leb slot_size (length slot)) (cond (accepts t) (sets slot 0 (slot_of (plan_as t))) slot) slot

@@ -9,13 +9,6 @@ ghost use Rattle.plan_read.specs.Reading.{read_of, after_reading};
 use limits::refusal::Refusal;
 use slot::check;
 
-// The plan stands in its slot, or why it does not.
-#[derive(Clone, Copy)]
-pub enum ReadPlan {
-    Read,
-    Refused(Refusal),
-}
-
 // Do its body and its steps have room?
 fn has_room(slot: &[u8]) -> bool
     ensures { result ≡ (leb (size_in slot.now) max_bytes && leb (count_in slot.now) max_steps) }
@@ -27,12 +20,7 @@ fn has_room(slot: &[u8]) -> bool
 fn body_length(slot: &[u8]) -> usize
     ensures { result ≡ size_in slot.now - header_in slot.now }
 {
-    let header = check::number_at(slot, 6);
-    let size = check::number_at(slot, 10);
-    if header <= size {
-        return size - header;
-    }
-    0
+    check::number_at(slot, 10).saturating_sub(check::number_at(slot, 6))
 }
 
 // Does it keep every rule, and is the text its own?
@@ -45,23 +33,24 @@ fn is_plan_of(slot: &[u8], text: &[u8]) -> bool
     plan_match::is_text(slot, text)
 }
 
-pub fn read_plan(text: &[u8], plan: &mut [u8]) -> ReadPlan
+// The plan stands in its slot, or it is said why it does not.
+pub fn read_plan(text: &[u8], plan: &mut [u8]) -> Result<(), Refusal>
     ensures { (result ≡ read_of text.now plan.old) × (plan.new ≡ after_reading text.now plan.old) }
 {
     if plan.len() < slot::SIZE {
-        return ReadPlan::Refused(Refusal::NoRoom);
+        return Err(Refusal::NoRoom);
     }
     let mut slot = [0u8; slot::SIZE];
     let behind = plan_take::take_head(text, &mut slot);
     if !has_room(&slot) {
-        return ReadPlan::Refused(Refusal::BadPlan);
+        return Err(Refusal::BadPlan);
     }
     let n = body_length(&slot);
     let count = check::number_at(&slot, 12);
     plan_take::take_rest(text, behind, n, count, &mut slot);
     if !is_plan_of(&slot, text) {
-        return ReadPlan::Refused(Refusal::BadPlan);
+        return Err(Refusal::BadPlan);
     }
     lent::store::copy(&slot, 0, plan, 0, slot::SIZE);
-    ReadPlan::Read
+    Ok(())
 }

@@ -1,33 +1,33 @@
--- The field rule: what a target field takes from a source record, a step or else its default.
-use Rattle.std.specs.Prelude.{ℕ, ◌/◌, Bool, cond, not, ◌&&◌, ◌||◌, List, leb, ltb, eqb, length}
+-- The field rule: what a target field takes from a source record, a step or else, where there is none, its default.
+use Rattle.std.specs.Prelude.{ℕ, ◌/◌, Bool, cond, not, ◌&&◌, ◌||◌, List, leb, ltb, eqb, length, Some, None}
+use Rattle.std.specs.declared.option.Option.{Option}
 use Rattle.lent.specs.Bytes.{byte_at}
 use Rattle.lent.specs.Scan.{gather, first}
 use Rattle.field.specs.Field.{field_at, is_plain_integer, counts, is_string, is_signed}
 use Rattle.field.specs.Pair.{same_kind, apart, same_sign}
 use Rattle.field.specs.declared.FieldDef.{FieldDef}
 use Rattle.step.specs.Step.{copy, int}
-use Rattle.plan_rules.specs.declared.Carried.{Carried}
-use Rattle.plan_rules.specs.declared.Carried.TheVariants.{By, Default}
+use Rattle.step.specs.declared.Step.{Step}
+use Rattle.plan_rules.specs.declared.Want.{Want as WantedField}
 
-abbrev pub when : Bool → Carried → Carried
-when test carried = cond test carried Default
+abbrev pub when : Bool → Option Step → Option Step
+when test carried = cond test carried None
 
 -- what a source field brings to a target field of its id
-unfoldable pub step_for : List ℕ → FieldDef → FieldDef → Bool → Carried
+unfoldable pub step_for : List ℕ → FieldDef → FieldDef → Bool → Option Step
 step_for cat have want marked =
-    cond (same_kind cat have want) (By (copy have.offset want.offset want.size))
-    (cond (apart cat have want) Default
+    cond (same_kind cat have want) (Some (copy have.offset want.offset want.size))
+    (cond (apart cat have want) None
     (cond (is_string cat have && is_string cat want)
-    (when (leb have.size want.size) (By (copy have.offset want.offset have.size)))
+    (when (leb have.size want.size) (Some (copy have.offset want.offset have.size)))
     (when (same_sign cat have want && (ltb have.size want.size || marked))
-    (By (int have.offset want.offset have.size want.size (is_signed cat have) marked)))))
+    (Some (int have.offset want.offset have.size want.size (is_signed cat have) marked)))))
 
 -- ---- the target's fields
 
--- a target field and its mark, which counts on a signed or unsigned field that is no array
-pub record Want : Type 0 where
-  pub def : FieldDef
-  pub marked : Bool
+-- a target field and its mark
+abbrev pub Want : Type 0
+Want = WantedField
 
 abbrev pub is_marked : List ℕ → List ℕ → ℕ → FieldDef → Bool
 is_marked cat marks k f = not (eqb (byte_at marks k) 0) && is_plain_integer cat f
@@ -43,6 +43,6 @@ abbrev pub same_id : FieldDef → FieldDef → Bool
 same_id want have = eqb have.field_id want.field_id
 
 -- from the first source field with its id
-unfoldable pub step_of : List ℕ → List FieldDef → Want → Carried
+unfoldable pub step_of : List ℕ → List FieldDef → Want → Option Step
 step_of cat haves w =
-    when (counts cat w.def) (first (same_id w.def) (λ have. step_for cat have w.def w.marked) Default haves)
+    when (counts cat w.def) (first (same_id w.def) (λ have. step_for cat have w.def w.marked) None haves)

@@ -1,11 +1,11 @@
 // The field rule: what a target field takes from a source record, and laws about it.
 #![tactic(auto)]
 
-use step::Step;
+use field::FieldDef;
 
-// A target field is carried by a step, or has its default.
+// A target field and its mark, which counts on a signed or unsigned field that is no array.
 #[derive(Clone, Copy)]
-pub enum Carried {
-    By(Step),
-    Default,
+pub struct Want {
+    pub def: FieldDef,
+    pub marked: bool,
 }

@@ -18,18 +18,16 @@ fn take_numbers(text: &[u8], at: usize, n: usize, out: &mut [u8]) -> usize
     ensures { (out.new ≡ sets out.old 0 (numbers_as n (drop at text.now))) × (drop result text.now ≡ pasts n (drop at text.now)) × (result ≤ length text.now) }
 {
     let mut next = at;
-    let mut k = 0;
-    while k < n {
+    for k in 0..n {
         let number = take_number(text, next);
         out[2 * k] = lent::store::low(number.value);
         out[2 * k + 1] = lent::store::high(number.value);
         next = number.next;
-        k += 1;
     }
     next
 }
 
-#[derive(Clone, Copy)]
+#[derive(Clone, Copy, Debug, PartialEq, Eq)]
 pub struct Taken {
     pub step: Step,
     pub next: usize,
@@ -93,15 +91,12 @@ fn take_steps(text: &[u8], at: usize, count: usize, out: &mut [u8])
     ensures { out.new ≡ sets out.old steps_from (packed_steps (steps_as count (drop at text.now))) }
 {
     let mut next = at;
-    let mut to = slot::STEPS_FROM;
-    let mut left = count;
-    while left != 0 {
+    for k in 0..count {
         let taken = take_step(text, next);
-        let bytes = step::packed::packed(taken.step);
+        let bytes = taken.step.packed();
+        let to = slot::STEPS_FROM + step::packed::SIZE * k;
         lent::store::copy(&bytes, 0, out, to, step::packed::SIZE);
         next = taken.next;
-        to += step::packed::SIZE;
-        left -= 1;
     }
 }
 

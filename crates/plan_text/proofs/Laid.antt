@@ -3,15 +3,17 @@ use mathlib.Core.Path.{◌≡◌, refl, ap, ◌∙◌}
 use mathlib.Core.Bool.{Bool}
 use mathlib.Core.List.{List, [], ◌∷◌, ◌++◌, append_assoc, append-nil}
 use Prim.Native.Nat.{ℕ, suc, ◌+◌, ◌-◌, ◌*◌, ◌≤◌, ◌<◌}
+use native.Mathlib.Nat.{mul-suc}
 use native.Mathlib.Omega.{arith}
 use lib.ListN.{length, length-append}
 use Rattle.lent.specs.Bytes.{number_at}
-use Rattle.lent.proofs.Scan.{turn, none}
+use Rattle.lent.proofs.Scan.{gathered-length}
 use Rattle.step.specs.Packed.{step_at, steps_at}
 use Rattle.decimal.specs.Decimal.{place, decimal, cell}
 use Rattle.decimal.specs.Hex.{hex}
 use Rattle.decimal.proofs.Numbers.{cell-length, decimal-most}
 use Rattle.decimal.proofs.Nibbles.{hex-length}
+use Rattle.step.specs.declared.Step.{Step}
 use Rattle.step.specs.declared.Op.{Op}
 use Rattle.step.specs.declared.Op.TheVariants.{Copy, Int}
 use Rattle.plan_text.specs.Text.{tab, newline, head_line, body_line, step_line, step_lines}
@@ -50,12 +52,22 @@ head-length slot =
     (omega arith)
 
 -- a turn over them
-pub tabbed-turn : (slot : List ℕ) (at n : ℕ) → 0 < n → tabbed slot at n ≡ cell (number_at slot at 2) tab ++ tabbed slot (at + 2) (n - 1)
+tabbed-turn : (slot : List ℕ) (at n : ℕ) → 0 < n → tabbed slot at n ≡ cell (number_at slot at 2) tab ++ tabbed slot (at + 2) (n - 1)
 unfolding tabbed
 tabbed-turn slot at n h = let e : n ≡ suc (n - 1) = omega arith in ap (λ (m : ℕ). tabbed slot at m) e
 
 pub tabbed-length : (slot : List ℕ) (at n : ℕ) → 0 < n → length (tabbed slot at n) ≡ wide (number_at slot at 2) + length (tabbed slot (at + 2) (n - 1))
 tabbed-length slot at n h = ap length (tabbed-turn slot at n h) ∙ cells (number_at slot at 2) tab (tabbed slot (at + 2) (n - 1))
+
+-- the same at the kth of n
+pub tabbed-next : (slot : List ℕ) (k n : ℕ) → k < n → tabbed slot (2 * k) (n - k) ≡ cell (number_at slot (2 * k) 2) tab ++ tabbed slot (2 * (k + 1)) (n - (k + 1))
+tabbed-next slot k n h =
+    let at : 2 * (k + 1) ≡ 2 * k + 2 = omega arith in
+    let left : n - (k + 1) ≡ n - k - 1 = omega arith in
+    rw (at, left) (tabbed-turn slot (2 * k) (n - k) (omega arith))
+
+pub tabbed-wide : (slot : List ℕ) (k n : ℕ) → k < n → length (tabbed slot (2 * k) (n - k)) ≡ wide (number_at slot (2 * k) 2) + length (tabbed slot (2 * (k + 1)) (n - (k + 1)))
+tabbed-wide slot k n h = ap length (tabbed-next slot k n h) ∙ cells (number_at slot (2 * k) 2) tab (tabbed slot (2 * (k + 1)) (n - (k + 1)))
 
 pub tabbed-none : (slot : List ℕ) (at n : ℕ) → n ≡ 0 → tabbed slot at n ≡ []
 unfolding tabbed
@@ -77,13 +89,29 @@ pub step-most : (op : Op) → length (step_line op) ≤ 32
 step-most (Copy a b n) = omega (arith, copy-length a b n, wide-most a, wide-most b, wide-most n)
 step-most (Int a b n m s k) = omega (arith, int-length a b n m s k, wide-most a, wide-most b, wide-most n, wide-most m)
 
-pub steps-turn : (slot : List ℕ) (at n : ℕ) → 0 < n → step_lines (steps_at slot at n) ≡ step_line (step_at slot at).op ++ step_lines (steps_at slot (at + 16) (n - 1))
-unfolding step_lines
-steps-turn slot at n h = rw (turn (step_at slot) 16 at n h)
+-- a turn over the steps
+module _ {left : List Step} where
+  pub lines-turn : {s : Step} {others : List Step} → left ≡ s ∷ others → step_lines left ≡ step_line s.op ++ step_lines others
+  unfolding step_lines
+  lines-turn e = rw e
 
-pub steps-length : (slot : List ℕ) (at n : ℕ) → 0 < n → length (step_lines (steps_at slot at n)) ≡ length (step_line (step_at slot at).op) + length (step_lines (steps_at slot (at + 16) (n - 1)))
-steps-length slot at n h = ap length (steps-turn slot at n h) ∙ length-append (step_line (step_at slot at).op) (step_lines (steps_at slot (at + 16) (n - 1)))
+  pub lines-length : {s : Step} {others : List Step} → left ≡ s ∷ others → length (step_lines left) ≡ length (step_line s.op) + length (step_lines others)
+  lines-length {s = s} {others = others} e = ap length (lines-turn e) ∙ length-append (step_line s.op) (step_lines others)
 
-pub steps-none : (slot : List ℕ) (at n : ℕ) → n ≡ 0 → step_lines (steps_at slot at n) ≡ []
+  pub lines-none : left ≡ [] → step_lines left ≡ []
+  unfolding step_lines
+  lines-none e = rw e
+
+pub lines-most : (ss : List Step) → length (step_lines ss) ≤ 32 * length ss
 unfolding step_lines
-steps-none slot at n e = rw (none (step_at slot) 16 at n e)
+lines-most [] = omega arith
+lines-most (s ∷ ss) =
+    let l = length-append (step_line s.op) (step_lines ss) in
+    let m = step-most s.op in
+    let ih = lines-most ss in
+    let t : 32 * suc (length ss) ≡ 32 + 32 * length ss = simp mul-suc (omega arith) in
+    omega arith
+
+-- of n steps that stand packed
+pub packed-lines-most : (slot : List ℕ) (at n : ℕ) → length (step_lines (steps_at slot at n)) ≤ 32 * n
+packed-lines-most slot at n = rw (gathered-length (step_at slot) 16 at n) at (lines-most (steps_at slot at n))

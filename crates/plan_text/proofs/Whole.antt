@@ -2,6 +2,7 @@
 use mathlib.Core.Path.{◌≡◌, ap, ◌∙◌}
 use mathlib.Core.Bool.{true, false}
 use mathlib.Core.List.{List, ◌++◌}
+use Rattle.std.specs.Prelude.{Ok, Err}
 use Prim.Native.Nat.{ℕ, ◌+◌, ◌-◌, ◌*◌, ◌≤◌, ◌<◌}
 use native.Mathlib.Omega.{arith}
 use lib.ListN.{length, length-append}
@@ -17,7 +18,6 @@ use Rattle.lent.proofs.Bytes.{window-length}
 use Rattle.plan_text.specs.Text.{body_line, step_lines, text_of}
 use Rattle.plan_text.specs.Held.{Held, head_in}
 use Rattle.plan_text.specs.Writing.{text_in, written_of, after_writing}
-use Rattle.plan_text.specs.declared.writer.Written.TheVariants.{Length, Refused}
 use Rattle.plan_text.proofs.Laid.{body-length}
 
 abbrev pub body_in : List ℕ → List ℕ
@@ -49,18 +49,18 @@ held slot ok = let k = kept_slot slot ok in record { long = k.long; few = k.few;
 -- ---- the writer's answers
 
 module _ (slot text : List ℕ) where
-  pub says-bad : slot_ok slot ≡ false → (Refused BadPlan ≡ written_of slot text) × (text ≡ after_writing slot text)
+  pub says-bad : slot_ok slot ≡ false → (Err BadPlan ≡ written_of slot text) × (text ≡ after_writing slot text)
   unfolding written_of after_writing
   says-bad h = (rw h, rw h)
 
   module _ (n : ℕ) (ok : slot_ok slot ≡ true) (e : n ≡ length (text_in slot)) where
-    pub says-short : length text < n → (Refused NoRoom ≡ written_of slot text) × (text ≡ after_writing slot text)
+    pub says-short : length text < n → (Err NoRoom ≡ written_of slot text) × (text ≡ after_writing slot text)
     unfolding written_of after_writing
     says-short h =
         let z = lt-leb (length (text_in slot)) (length text) (omega arith) in
         (rw (ok, z), rw (ok, z))
 
-    pub says-text : (new : List ℕ) → n ≤ length text → new ≡ sets text 0 (text_in slot) → (Length n ≡ written_of slot text) × (new ≡ after_writing slot text)
+    pub says-text : (new : List ℕ) → n ≤ length text → new ≡ sets text 0 (text_in slot) → (Ok n ≡ written_of slot text) × (new ≡ after_writing slot text)
     unfolding written_of after_writing
     says-text new h w =
         let z = le-leb (length (text_in slot)) (length text) (omega arith) in

@@ -15,12 +15,8 @@ fn of_tabbed(slot: &[u8], n: usize) -> usize
     ensures { (result ≡ length (tabbed slot.now 0 n)) × (result ≤ 6 * n) }
 {
     let mut sum = 0;
-    let mut from = 0;
-    let mut left = n;
-    while left != 0 {
-        sum += cell_length(lent::u16_in(slot, from));
-        from += 2;
-        left -= 1;
+    for k in 0..n {
+        sum += cell_length(lent::u16_in(slot, 2 * k));
     }
     sum
 }
@@ -35,8 +31,7 @@ fn of_head(slot: &[u8]) -> usize
 pub fn of_step(step: Step) -> usize
     ensures { (result ≡ length (step_line step.op)) × (result ≤ 32) }
 {
-    let op = step.op;
-    match op {
+    match step.op {
         Op::Copy {
             src_offset,
             dst_offset,
@@ -47,8 +42,7 @@ pub fn of_step(step: Step) -> usize
             dst_offset,
             src_size,
             dst_size,
-            signed: _,
-            has_undef_max: _,
+            ..
         } => {
             let offsets = cell_length(src_offset) + cell_length(dst_offset);
             8 + (offsets + (cell_length(src_size) + cell_length(dst_size)))
@@ -61,16 +55,13 @@ fn of_steps(slot: &[u8], count: usize) -> usize
     ensures { (result ≡ length (step_lines (steps_at slot.now steps_from count))) × (result ≤ 32 * max_steps) }
 {
     let mut sum = 0;
-    let mut at = slot::STEPS_FROM;
-    let mut left = count;
-    while left != 0 {
-        sum += of_step(step::packed::step_in(slot, at));
-        at += step::packed::SIZE;
-        left -= 1;
+    for step in slot::steps_in(slot, count) {
+        sum += of_step(step);
     }
     sum
 }
 
+// `Held` asks for less than a `ValidPlan`, and so do the writer's lines and the comparison: sizes that fit, whatever the steps.
 pub fn of_text(slot: &[u8]) -> usize
     requires { Held slot.now }
     ensures { (result ≡ length (text_in slot.now)) × (result ≤ 16384) }

@@ -1,4 +1,5 @@
-// The lines of a plan's text, stored from `at` on; the answer is the place behind them.
+// The lines of a plan's text, stored from `at` on; the answer is the place behind them. Not by `write!`, which answers an error
+// that cannot come here, and whose `Err` would say nothing of `out`.
 ghost use Rattle.std.specs.Prelude.{◌≡◌, cond, ◌+◌, ◌*◌, ◌≤◌, length};
 ghost use Rattle.limits.specs.Limits.{max_bytes};
 ghost use Rattle.lent.specs.Bytes.{window};
@@ -21,12 +22,8 @@ fn put_tabbed(slot: &[u8], n: usize, out: &mut [u8], at: usize) -> usize
     ensures { Put out.old at (tabbed slot.now 0 n) out.new result }
 {
     let mut to = at;
-    let mut from = 0;
-    let mut left = n;
-    while left != 0 {
-        to = put_cell(lent::u16_in(slot, from), TAB, out, to);
-        from += 2;
-        left -= 1;
+    for k in 0..n {
+        to = put_cell(lent::u16_in(slot, 2 * k), TAB, out, to);
     }
     to
 }
@@ -104,8 +101,7 @@ pub fn put_step(step: Step, out: &mut [u8], at: usize) -> usize
     requires { at + length (step_line step.op) ≤ length out.old }
     ensures { Put out.old at (step_line step.op) out.new result }
 {
-    let op = step.op;
-    match op {
+    match step.op {
         Op::Copy {
             src_offset,
             dst_offset,
@@ -137,12 +133,8 @@ pub fn put_steps(slot: &[u8], count: usize, out: &mut [u8], at: usize) -> usize
     ensures { Put out.old at (step_lines (steps_at slot.now steps_from count)) out.new result }
 {
     let mut to = at;
-    let mut from = slot::STEPS_FROM;
-    let mut left = count;
-    while left != 0 {
-        to = put_step(step::packed::step_in(slot, from), out, to);
-        from += step::packed::SIZE;
-        left -= 1;
+    for step in slot::steps_in(slot, count) {
+        to = put_step(step, out, to);
     }
     to
 }

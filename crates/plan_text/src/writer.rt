@@ -7,13 +7,6 @@ ghost use Rattle.plan_text.specs.Writing.{text_in, written_of, after_writing};
 use crate::{lengths, lines};
 use limits::refusal::Refusal;
 
-// The text's length, or why there is none.
-#[derive(Clone, Copy)]
-pub enum Written {
-    Length(usize),
-    Refused(Refusal),
-}
-
 fn put_text(slot: &[u8], text: &mut [u8])
     requires { Held slot.now × (length (text_in slot.now) ≤ length text.old) }
     ensures { text.new ≡ sets text.old 0 (text_in slot.now) }
@@ -26,17 +19,17 @@ fn put_text(slot: &[u8], text: &mut [u8])
     lines::put_steps(slot, count, text, body);
 }
 
-// The plan's text at the start of what is lent for it.
-pub fn write_plan(slot: &[u8], text: &mut [u8]) -> Written
+// The plan's text at the start of what is lent for it; the answer is its length.
+pub fn write_plan(slot: &[u8], text: &mut [u8]) -> Result<usize, Refusal>
     ensures { (result ≡ written_of slot.now text.old) × (text.new ≡ after_writing slot.now text.old) }
 {
     if !slot::check::is_ok(slot) {
-        return Written::Refused(Refusal::BadPlan);
+        return Err(Refusal::BadPlan);
     }
     let n = lengths::of_text(slot);
     if text.len() < n {
-        return Written::Refused(Refusal::NoRoom);
+        return Err(Refusal::NoRoom);
     }
     put_text(slot, text);
-    Written::Length(n)
+    Ok(n)
 }

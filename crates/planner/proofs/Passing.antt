@@ -18,7 +18,8 @@ use Rattle.slot.specs.Slot.{slot_size}
 use Rattle.plan_rules.specs.Rule.{Want, wants}
 use Rattle.defaults.specs.Defaults.{starts_after, header_ok, defaults_ok}
 use Rattle.planner.specs.Planner.{between_of}
-use Rattle.planner.specs.declared.Planned.TheVariants.{Made, Refused}
+use Rattle.std.specs.Prelude.{Ok}
+use Rattle.admission_rules.specs.Admission.{failed}
 
 pub header-fits : (cat : List ℕ) (header size : ℕ) (fs : List FieldDef) → header_ok cat header size fs ≡ true
     → (header ≤ max_header) × (header ≤ size) × (every (starts_after cat header) fs ≡ true)
@@ -42,19 +43,19 @@ module _ (cat : List ℕ) (want : RecordLayout) (header : ℕ) (body marks : Lis
   abbrev defaults : Bool
   defaults = defaults_ok cat header (record_size want) fields (wants cat marks want.table) body
 
-  pub in-header : header_ok cat header (record_size want) fields ≡ false → Refused BadHeader ≡ between_of cat want header body marks room
+  pub in-header : header_ok cat header (record_size want) fields ≡ false → failed BadHeader ≡ between_of cat want header body marks room
   unfolding between_of
   in-header h = rw h
 
-  pub wrong-body : header_ok cat header (record_size want) fields ≡ true → defaults ≡ false → Refused BadDefaults ≡ between_of cat want header body marks room
+  pub wrong-body : header_ok cat header (record_size want) fields ≡ true → defaults ≡ false → failed BadDefaults ≡ between_of cat want header body marks room
   unfolding between_of
   wrong-body h d = rw (h, d)
 
-  pub no_room : header_ok cat header (record_size want) fields ≡ true → defaults ≡ true → room < slot_size → Refused NoRoom ≡ between_of cat want header body marks room
+  pub no_room : header_ok cat header (record_size want) fields ≡ true → defaults ≡ true → room < slot_size → failed NoRoom ≡ between_of cat want header body marks room
   unfolding between_of
   no_room h d r = rw (h, d, lt-leb slot_size room r)
 
-  pub is_made : header_ok cat header (record_size want) fields ≡ true → defaults ≡ true → slot_size ≤ room → Made ≡ between_of cat want header body marks room
+  pub is_made : header_ok cat header (record_size want) fields ≡ true → defaults ≡ true → slot_size ≤ room → Ok tt ≡ between_of cat want header body marks room
   unfolding between_of
   is_made h d r = rw (h, d, le-leb slot_size room r)
 

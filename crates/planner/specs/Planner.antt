@@ -1,20 +1,19 @@
 -- The plan from a record of one layout to a record of another, and when it is refused.
-use Rattle.std.specs.Prelude.{ℕ, Bool, cond, ◌&&◌, List, leb, ltb, length}
+use Rattle.std.specs.Prelude.{ℕ, cond, Result, Ok, Err, ◌&&◌, List, leb, ltb, length}
 use Rattle.std.proofs.lemmas.List.Edits.{sets}
-use Rattle.limits.specs.declared.refusal.Refusal.{Refusal}
 use Rattle.limits.specs.declared.refusal.Refusal.TheVariants.{BadHeader, BadDefaults, NoRoom}
 use Rattle.field.specs.Field.{fields_of}
 use Rattle.layout.specs.Layout.{RecordLayout, record_of, count_of}
 use Rattle.record_size.specs.Size.{record_size}
 use Rattle.field.specs.declared.Holder.TheVariants.{Record}
-use Rattle.admission_rules.specs.Admission.{admit_both, or_refused}
+use Rattle.admission_rules.specs.Admission.{admit_both, unless, or_refused, failed}
 use Rattle.slot.specs.Plan.{Plan}
 use Rattle.slot.specs.Slot.{slot_size, slot_of}
 use Rattle.plan_rules.specs.Rule.{wants}
 use Rattle.steps.specs.Steps.{planned_steps}
 use Rattle.defaults.specs.Defaults.{header_ok, defaults_ok}
-use Rattle.planner.specs.declared.Planned.{Planned}
-use Rattle.planner.specs.declared.Planned.TheVariants.{Made, NoRecord, Refused}
+use Rattle.limits.specs.declared.refusal.Failure.{Failure}
+use Rattle.limits.specs.declared.refusal.Failure.TheVariants.{NoRecord, Refused}
 
 -- a header length, a default body and marks go with the target
 unfoldable pub plan_between : List ℕ → RecordLayout → RecordLayout → ℕ → List ℕ → List ℕ → Plan
@@ -30,28 +29,23 @@ plan_between cat have want header body marks =
       steps = planned_steps cat (fields_of have.table) (wants cat marks want.table) have.base want.base;
     }
 
--- the refusal unless the test passes
-abbrev pub unless : Bool → Refusal → Planned → Planned
-unless test refusal rest = cond test rest (Refused refusal)
-
 -- 7, 8, and 11 where there is no room for a slot
-unfoldable pub between_of : List ℕ → RecordLayout → ℕ → List ℕ → List ℕ → ℕ → Planned
+unfoldable pub between_of : List ℕ → RecordLayout → ℕ → List ℕ → List ℕ → ℕ → Result (Unit {0}) Failure
 between_of cat want header body marks room =
-    unless (header_ok cat header (record_size want) (fields_of want.table)) BadHeader
-    (unless (defaults_ok cat header (record_size want) (fields_of want.table) (wants cat marks want.table) body) BadDefaults
-    (unless (leb slot_size room) NoRoom Made))
+    unless (header_ok cat header (record_size want) (fields_of want.table)) (Refused BadHeader)
+    (unless (defaults_ok cat header (record_size want) (fields_of want.table) (wants cat marks want.table) body) (Refused BadDefaults)
+    (unless (leb slot_size room) (Refused NoRoom) (Ok tt)))
 
 -- from record k of the source's layout to record `to` of the target's
-unfoldable pub planned_of : List ℕ → List ℕ → ℕ → List ℕ → ℕ → ℕ → List ℕ → List ℕ → ℕ → Planned
+unfoldable pub planned_of : List ℕ → List ℕ → ℕ → List ℕ → ℕ → ℕ → List ℕ → List ℕ → ℕ → Result (Unit {0}) Failure
 planned_of cat source k target to header body marks room =
-    or_refused Refused (admit_both cat source target)
-    (cond (ltb k (count_of Record source) && ltb to (count_of Record target)) (between_of cat (record_of target to) header body marks room) NoRecord)
+    or_refused failed (admit_both cat source target)
+    (cond (ltb k (count_of Record source) && ltb to (count_of Record target)) (between_of cat (record_of target to) header body marks room) (Err NoRecord))
 
 -- what is left of the lent room: the plan's slot, or all as found
-abbrev pub or_found : Planned → List ℕ → List ℕ → List ℕ
-or_found Made new old = new
-or_found NoRecord new old = old
-or_found (Refused refusal) new old = old
+abbrev pub or_found : Result (Unit {0}) Failure → List ℕ → List ℕ → List ℕ
+or_found (Ok done) new old = new
+or_found (Err failure) new old = old
 
 abbrev pub laid_between : List ℕ → RecordLayout → RecordLayout → ℕ → List ℕ → List ℕ → List ℕ → List ℕ
 laid_between cat have want header body marks room = sets room 0 (slot_of (plan_between cat have want header body marks))

@@ -10,20 +10,14 @@ ghost use Rattle.record_size.specs.Size.{record_size};
 ghost use Rattle.slot.specs.Slot.{slot_size};
 ghost use Rattle.planner.specs.Planner.{between_of, planned_of, or_found, laid_between, after_plan};
 
-use admission_rules::Admitted;
 use coalesce::Bases;
 use field::Holder;
 use layout::block;
-use limits::refusal::Refusal;
+use layout::block::Head;
+use limits::refusal::{Failure, Refusal};
 use slot::{Numbers, UpgradePlan};
 
-#[derive(Clone, Copy)]
-pub enum Planned {
-    Made,
-    NoRecord,
-    Refused(Refusal),
-}
-
+// A cast whose bound is known: `try_from` would answer an error that cannot come.
 fn in_two_bytes(n: usize) -> u16
     requires { n < 65536 }
     ensures { result ≡ n }
@@ -31,20 +25,20 @@ fn in_two_bytes(n: usize) -> u16
     n as u16
 }
 
-// The plan between the records whose heads begin at `from` and `to`, laid into the room that is lent for it; `size` is the target's record size.
+// The plan between the records whose heads are `from` and `to`, laid into the room that is lent for it; `size` is the target's record size.
 fn lay(
     cat: &[u8],
     source: &[u8],
-    from: usize,
+    from: Head,
     target: &[u8],
-    to: usize,
+    to: Head,
     size: usize,
     header: usize,
     body: &[u8],
     marks: &[u8],
     room: &mut [u8],
 )
-    requires { (from < 4000000000) × (to < 4000000000) × (header ≤ max_header) × ((record_at source.now from).base ≤ max_bytes) × (record_size (record_at target.now to) ≤ max_bytes) × (length (record_at target.now to).table ≤ 16 * max_fields) × (length body.now ≤ max_bytes) × (slot_size ≤ length room.old) × (length (record_at source.now from).table ≤ 16 * max_fields) × (size ≡ record_size (record_at target.now to)) }
+    requires { (header ≤ max_header) × ((record_at source.now from).base ≤ max_bytes) × (record_size (record_at target.now to) ≤ max_bytes) × (length (record_at target.now to).table ≤ 16 * max_fields) × (length body.now ≤ max_bytes) × (slot_size ≤ length room.old) × (length (record_at source.now from).table ≤ 16 * max_fields) × (size ≡ record_size (record_at target.now to)) }
     ensures { room.new ≡ laid_between cat.now (record_at source.now from) (record_at target.now to) header body.now marks.now room.old }
 {
     let bases = Bases {
@@ -75,32 +69,32 @@ fn lay(
 fn between(
     cat: &[u8],
     source: &[u8],
-    from: usize,
+    from: Head,
     target: &[u8],
-    to: usize,
+    to: Head,
     header: usize,
     body: &[u8],
     marks: &[u8],
     room: &mut [u8],
-) -> Planned
-    requires { (from < 4000000000) × (to < 4000000000) × ((record_at source.now from).base ≤ max_bytes) × (record_size (record_at target.now to) ≤ max_bytes) × (length (record_at target.now to).table ≤ 16 * max_fields) × (length (record_at source.now from).table ≤ 16 * max_fields) }
+) -> Result<(), Failure>
+    requires { ((record_at source.now from).base ≤ max_bytes) × (record_size (record_at target.now to) ≤ max_bytes) × (length (record_at target.now to).table ≤ 16 * max_fields) × (length (record_at source.now from).table ≤ 16 * max_fields) }
     ensures { (result ≡ between_of cat.now (record_at target.now to) header body.now marks.now (length room.old)) × (room.new ≡ or_found result (laid_between cat.now (record_at source.now from) (record_at target.now to) header body.now marks.now room.old) room.old) }
 {
     let want = block::table_at(Holder::Record, target, to);
     let size = record_size::record_size(target, to);
     if !defaults::header_ok(cat, header, size, want) {
-        return Planned::Refused(Refusal::BadHeader);
+        return Err(Failure::Refused(Refusal::BadHeader));
     }
     if !defaults::defaults_ok(cat, header, size, want, marks, body) {
-        return Planned::Refused(Refusal::BadDefaults);
+        return Err(Failure::Refused(Refusal::BadDefaults));
     }
     if room.len() < slot::SIZE {
-        return Planned::Refused(Refusal::NoRoom);
+        return Err(Failure::Refused(Refusal::NoRoom));
     }
     lay(
         cat, source, from, target, to, size, header, body, marks, room,
     );
-    Planned::Made
+    Ok(())
 }
 
 // From record k of the source's layout to record `to` of the target's.
@@ -114,20 +108,15 @@ pub fn plan(
     body: &[u8],
     marks: &[u8],
     room: &mut [u8],
-) -> Planned
+) -> Result<(), Failure>
     ensures { (result ≡ planned_of cat.now source.now k target.now to header body.now marks.now (length room.old)) × (room.new ≡ after_plan cat.now source.now k target.now to header body.now marks.now room.old) }
 {
-    match admission::admit_both(cat, source, target) {
-        Admitted::Refused(refusal) => Planned::Refused(refusal),
-        Admitted::Fine => {
-            let there = k < block::count_of(Holder::Record, source);
-            if there & (to < block::count_of(Holder::Record, target)) {
-                let from = block::record_head(k);
-                let at = block::record_head(to);
-                between(cat, source, from, target, at, header, body, marks, room)
-            } else {
-                Planned::NoRecord
-            }
-        }
+    admission::admit_both(cat, source, target)?;
+    let there = k < block::count_of(Holder::Record, source);
+    if there & (to < block::count_of(Holder::Record, target)) {
+        let from = block::record_head(k);
+        let at = block::record_head(to);
+        return between(cat, source, from, target, at, header, body, marks, room);
     }
+    Err(Failure::NoRecord)
 }

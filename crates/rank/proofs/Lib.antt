@@ -1,1 +1,1 @@
-mod Search
+pub mod Search

@@ -1,31 +1,28 @@
 // record_size of dbn's layout.rs.
 #![tactic(auto)]
 
-ghost use Rattle.std.specs.Prelude.{◌≡◌, ◌+◌, ◌<◌};
+ghost use Rattle.std.specs.Prelude.{◌≡◌};
 ghost use Rattle.field.specs.Field.{fields_of};
 ghost use Rattle.layout.specs.Layout.{record_at};
 ghost use Rattle.record_size.specs.Size.{last_end, record_size};
 
 use field::Holder;
+use field::rows::rows_of;
 use layout::block;
+use layout::block::Head;
 
 fn last_end(t: &[u8]) -> usize
     ensures { result ≡ last_end (fields_of t.now) }
 {
     let mut end: usize = 0;
-    let mut at = 0;
-    let mut left = t.len() / field::SIZE;
-    while left != 0 {
-        end = lent::greater(end, field::end_of(field::field_in(t, at)));
-        at += field::SIZE;
-        left -= 1;
+    for f in rows_of(t) {
+        end = lent::greater(end, field::end_of(f));
     }
     end
 }
 
-// Of the record whose head begins at h.
-pub fn record_size(l: &[u8], h: usize) -> usize
-    requires { h < 4000000000 }
+// Of the record whose head is h.
+pub fn record_size(l: &[u8], h: Head) -> usize
     ensures { result ≡ record_size (record_at l.now h) }
 {
     lent::greater(

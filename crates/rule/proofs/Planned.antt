@@ -22,8 +22,8 @@ use Rattle.step.specs.declared.Step.{Step}
 use Rattle.field.specs.Pair.{same_kind, apart as unlike, same_sign}
 use Rattle.plan_rules.specs.Rule.{Want, same_id, step_for, step_of}
 use Rattle.steps.specs.Steps.{before, steps_of, offset_of_want, in_target_order, planned_steps}
-use Rattle.plan_rules.specs.declared.Carried.{Carried}
-use Rattle.plan_rules.specs.declared.Carried.TheVariants.{By, Default}
+use Rattle.std.specs.declared.option.Option.{Option}
+use Rattle.std.specs.Prelude.{Some, None}
 use Rattle.rule.specs.Bytewise.{run_byte}
 use Rattle.rule.specs.Body.{defs, holds, carried_byte, rule_byte}
 use Rattle.rule.specs.Recut.{Recut, back, then}
@@ -32,22 +32,22 @@ use Rattle.rule.proofs.Cuts.{recut-byte, join_all-recut}
 
 -- ---- what holds of a field's step, if it has one
 
-abbrev pub If : (Step → Type 0) → Carried → Type 0
-If P Default = Unit {0}
-If P (By s) = P s
+abbrev pub If : (Step → Type 0) → Option Step → Type 0
+If P None = Unit {0}
+If P (Some s) = P s
 
-pub if-cond : (P : Step → Type 0) (b : Bool) (x y : Carried) → (b ≡ true → If P x) → (b ≡ false → If P y) → If P (cond b x y)
+pub if-cond : (P : Step → Type 0) (b : Bool) (x y : Option Step) → (b ≡ true → If P x) → (b ≡ false → If P y) → If P (cond b x y)
 if-cond P true x y f g = f refl
 if-cond P false x y f g = g refl
 
 -- of the first source field's, where it holds of each that is good
-pub if-first : {A : Type 0} (P : Step → Type 0) (good test : A → Bool) (give : A → Carried) (xs : List A) → ((x : A) → good x ≡ true → If P (give x))
-    → every good xs ≡ true → If P (first test give Default xs)
+pub if-first : {A : Type 0} (P : Step → Type 0) (good test : A → Bool) (give : A → Option Step) (xs : List A) → ((x : A) → good x ≡ true → If P (give x))
+    → every good xs ≡ true → If P (first test give None xs)
 unfolding every first
 if-first P good test give [] f e = tt
 if-first P good test give (x ∷ xs) f e =
     let p = both (good x) (every good xs) e in
-    if-cond P (test x) (give x) (first test give Default xs) (λ t. f x p.0) (λ t. if-first P good test give xs f p.1)
+    if-cond P (test x) (give x) (first test give None xs) (λ t. f x p.0) (λ t. if-first P good test give xs f p.1)
 
 all_pass : {A : Type 0} (xs : List A) → every (λ x. true) xs ≡ true
 unfolding every
@@ -95,14 +95,14 @@ pub holds_not : (f : FieldDef) (i : ℕ) → holds f i ≡ false → Covers f i 
 holds_not f i e c = false≢true (sym e ∙ is-holds f i c)
 
 -- outside the field nothing is carried
-carried-out : (src : List ℕ) (f : FieldDef) (c : Carried) (i old : ℕ) → If (Within f) c → (Covers f i → ⊥) → carried_byte src c i old ≡ old
-carried-out src f Default i old x h = refl
-carried-out src f (By s) i old x h = step-out src s i old (λ a b. h (record { from = omega arith; to = omega arith }))
+carried-out : (src : List ℕ) (f : FieldDef) (c : Option Step) (i old : ℕ) → If (Within f) c → (Covers f i → ⊥) → carried_byte src c i old ≡ old
+carried-out src f None i old x h = refl
+carried-out src f (Some s) i old x h = step-out src s i old (λ a b. h (record { from = omega arith; to = omega arith }))
 
-run-before : (src : List ℕ) (c : Carried) (ss : List Step) (i old : ℕ) → run_byte src (before c ss) i old ≡ run_byte src ss i (carried_byte src c i old)
+run-before : (src : List ℕ) (c : Option Step) (ss : List Step) (i old : ℕ) → run_byte src (before c ss) i old ≡ run_byte src ss i (carried_byte src c i old)
 unfolding run_byte
-run-before src Default ss i old = refl
-run-before src (By s) ss i old = refl
+run-before src None ss i old = refl
+run-before src (Some s) ss i old = refl
 
 module _ (cat : List ℕ) (haves : List FieldDef) (src : List ℕ) (i : ℕ) where
   -- the steps of fields that lie apart from one leave its bytes

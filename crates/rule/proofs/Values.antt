@@ -17,9 +17,10 @@ use Rattle.field.specs.declared.FieldDef.{FieldDef}
 use Rattle.table_rules.specs.Table.{clear_of, apart}
 use Rattle.table_rules.proofs.Bytes.{Covers, clear}
 use Rattle.step.specs.Step.{source_of, takes, target_of, gives}
+use Rattle.step.specs.declared.Step.{Step}
 use Rattle.plan_rules.specs.Rule.{Want, step_of}
-use Rattle.plan_rules.specs.declared.Carried.{Carried}
-use Rattle.plan_rules.specs.declared.Carried.TheVariants.{By, Default}
+use Rattle.std.specs.declared.option.Option.{Option}
+use Rattle.std.specs.Prelude.{Some, None}
 use Rattle.interpreter.specs.Run.{carried, reaches}
 use Rattle.rule.specs.Bytewise.{step_byte}
 use Rattle.rule.specs.Body.{defs, holds, carried_byte, rule_byte, value_of}
@@ -61,28 +62,28 @@ rule-out cat haves [] src i old h = refl
 rule-out cat haves (w ∷ ws) src i old h =
     go (holds w.def i) (counts cat w.def) (holds-is w.def i) (h w (Memᴰ.head refl)) _ (rule-out cat haves ws src i old (λ v m. h v (Memᴰ.tail m)))
   where
-    go : (b n : Bool) → (b ≡ true → Covers w.def i) → (n ≡ true → Covers w.def i → ⊥) → (c : Carried) → rule_byte cat haves ws src i old ≡ old
-        → cond b (carried_byte src (cond n c Default) i old) (rule_byte cat haves ws src i old) ≡ old
+    go : (b n : Bool) → (b ≡ true → Covers w.def i) → (n ≡ true → Covers w.def i → ⊥) → (c : Option Step) → rule_byte cat haves ws src i old ≡ old
+        → cond b (carried_byte src (cond n c None) i old) (rule_byte cat haves ws src i old) ≡ old
     go true true f g c ih = absurd (g refl (f refl))
     go true false f g c ih = refl
     go false n f g c ih = ih
 
 -- ---- the bytes of a field together
 
-value-length : (src : List ℕ) (f : FieldDef) (c : Carried) (default : List ℕ) → If (Within f) c → length default ≡ f.size → length (value_of src c default) ≡ f.size
-value-length src f Default default w e = e
-value-length src f (By s) default w e = go (reaches src s) (leb-true (source_of s + takes s) (length src)) where
+value-length : (src : List ℕ) (f : FieldDef) (c : Option Step) (default : List ℕ) → If (Within f) c → length default ≡ f.size → length (value_of src c default) ≡ f.size
+value-length src f None default w e = e
+value-length src f (Some s) default w e = go (reaches src s) (leb-true (source_of s + takes s) (length src)) where
   go : (p : Bool) → (p ≡ true → source_of s + takes s ≤ length src) → length (cond p (carried src s.op ++ drop (gives s) default) default) ≡ f.size
   go true h =
       let l = length-carried src s (h refl) in
       omega (arith, length-append (carried src s.op) (drop (gives s) default), length-drop (gives s) default)
   go false h = e
 
-value-byte : (src : List ℕ) (f : FieldDef) (c : Carried) (default : List ℕ) (j : ℕ) → If (Within f) c → length default ≡ f.size → j < f.size
+value-byte : (src : List ℕ) (f : FieldDef) (c : Option Step) (default : List ℕ) (j : ℕ) → If (Within f) c → length default ≡ f.size → j < f.size
     → byte_at (value_of src c default) j ≡ carried_byte src c (f.offset + j) (byte_at default j)
 unfolding step_byte
-value-byte src f Default default j w e h = refl
-value-byte src f (By s) default j w e h = go (reaches src s) (leb-true (source_of s + takes s) (length src)) where
+value-byte src f None default j w e h = refl
+value-byte src f (Some s) default j w e h = go (reaches src s) (leb-true (source_of s + takes s) (length src)) where
   at-end : f.offset + j - target_of s ≡ j
   at-end = omega arith
 

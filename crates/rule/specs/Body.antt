@@ -4,9 +4,10 @@ use Rattle.lent.specs.Scan.{first}
 use Rattle.field.specs.Field.{end_of}
 use Rattle.field.specs.declared.FieldDef.{FieldDef}
 use Rattle.step.specs.Step.{gives}
+use Rattle.step.specs.declared.Step.{Step}
 use Rattle.plan_rules.specs.Rule.{Want, step_of}
-use Rattle.plan_rules.specs.declared.Carried.{Carried}
-use Rattle.plan_rules.specs.declared.Carried.TheVariants.{By, Default}
+use Rattle.std.specs.declared.option.Option.{Option}
+use Rattle.std.specs.Prelude.{Some, None}
 use Rattle.interpreter.specs.Run.{carried, reaches}
 use Rattle.rule.specs.Bytewise.{step_byte, bytewise}
 
@@ -19,9 +20,9 @@ abbrev pub holds : FieldDef → ℕ → Bool
 holds f i = leb f.offset i && ltb i (end_of f)
 
 -- byte i of what a field carries, `old` in its default
-abbrev pub carried_byte : List ℕ → Carried → ℕ → ℕ → ℕ
-carried_byte src Default i old = old
-carried_byte src (By s) i old = step_byte src s i old
+abbrev pub carried_byte : List ℕ → Option Step → ℕ → ℕ → ℕ
+carried_byte src None i old = old
+carried_byte src (Some s) i old = step_byte src s i old
 
 -- byte i of the target, `old` in the default body
 unfoldable pub rule_byte : List ℕ → List FieldDef → List Want → List ℕ → ℕ → ℕ → ℕ
@@ -34,6 +35,6 @@ rule_body cat haves ws src h b = bytewise (rule_byte cat haves ws src) h b
 -- ---- the same, field by field
 
 -- the bytes of a field: what is carried, and the default behind it; the default where nothing is, or the record ends before
-abbrev pub value_of : List ℕ → Carried → List ℕ → List ℕ
-value_of src Default default = default
-value_of src (By s) default = cond (reaches src s) (carried src s.op ++ drop (gives s) default) default
+abbrev pub value_of : List ℕ → Option Step → List ℕ → List ℕ
+value_of src None default = default
+value_of src (Some s) default = cond (reaches src s) (carried src s.op ++ drop (gives s) default) default

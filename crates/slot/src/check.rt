@@ -21,6 +21,7 @@ pub fn number_in(slot: &[u8], at: usize) -> usize
     lent::wide16(lent::u16_in(slot, at))
 }
 
+// Hosts lend a slice of any length; that it is a slot's is tested once, in `is_ok`.
 fn numbers_ok(slot: &[u8]) -> bool
     requires { length slot.now ≡ slot_size }
     ensures { result ≡ (sizes_ok (plan_in slot.now) && leb (count_in slot.now) max_steps) }
@@ -39,22 +40,19 @@ fn steps_ok(slot: &[u8]) -> bool
 {
     let size = number_in(slot, 10);
     let mut low = number_in(slot, 6);
-    let mut at = crate::STEPS_FROM;
-    let mut left = number_in(slot, 12);
-    while left != 0 {
+    for k in 0..number_in(slot, 12) {
+        let at = crate::STEPS_FROM + step::packed::SIZE * k;
         let step = step::packed::step_in(slot, at);
         if !step::packed::flags_ok(slot, at) {
             return false;
         }
-        if !step::step_ok(step) {
+        if !step.is_ok() {
             return false;
         }
-        if !step::within(step, low, size) {
+        if !step.is_within(low, size) {
             return false;
         }
-        low = step::end_of(step);
-        at += step::packed::SIZE;
-        left -= 1;
+        low = step.end();
     }
     true
 }

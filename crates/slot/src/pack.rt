@@ -26,13 +26,10 @@ fn put_steps(steps: Steps, slot: &mut [u8])
     requires { (steps.count ≤ max_steps) × (slot_size ≤ length slot.old) }
     ensures { (slot.new ≡ sets slot.old steps_from (packed_steps (take steps.count steps.steps))) × (length (take steps.count steps.steps) ≡ steps.count) }
 {
-    let mut at = crate::STEPS_FROM;
-    let mut k = 0;
-    while k < steps.count {
-        let bytes = step::packed::packed(steps.steps[k]);
+    for k in 0..steps.count {
+        let bytes = steps.steps[k].packed();
+        let at = crate::STEPS_FROM + step::packed::SIZE * k;
         store::copy(&bytes, 0, slot, at, step::packed::SIZE);
-        at += step::packed::SIZE;
-        k += 1;
     }
 }
 

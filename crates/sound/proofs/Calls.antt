@@ -27,12 +27,12 @@ use Rattle.cursor_rules.proofs.Align.{up_from}
 use Rattle.cursor_rules.proofs.Stores.{slot-length}
 use Rattle.cursor_rules.proofs.Rooms.{room-there, padded}
 use Rattle.cursor_rules.specs.declared.FieldCursor.{FieldCursor}
-use Rattle.cursor_rules.specs.declared.Placed.{Placed}
-use Rattle.cursor_rules.specs.declared.Placed.TheVariants.{At, Refused}
 use Rattle.sound.specs.Sound.{Sound, fields_in, lengths_in, short, tiles, plain, after, state_after}
 use Rattle.sound.proofs.Rows.{same-fields, last_one, same-heads, row-offset, row-size, row_type, row-flags, row-reserved}
 use Rattle.sound.proofs.Tiles.{tiles_more, every_more}
 use Rattle.sound.proofs.Widths.{or-keeps, padding-class, size-there, width-kept}
+use Rattle.std.specs.Prelude.{Result, Ok, Err}
+use Rattle.limits.specs.declared.refusal.Refusal.{Refusal}
 
 module _ (cat : List ℕ) (holder : Holder) where
   pub fresh-sound : (t n : List ℕ) → Sound cat holder (building (fresh holder) t n)
@@ -144,9 +144,9 @@ module _ (cat : List ℕ) (holder : Holder) where
   -- the base noted is nothing to the fields
   pub noted-sound : (b : Building) (o : Outcome) → Sound cat holder (after b o) → Sound cat holder (after b (noted_all o))
   noted-sound b o s = go o.answer s where
-    go : (p : Placed) → Sound cat holder (building (state_after b.state p) o.table o.names) → Sound cat holder (building (state_after b.state (noted_in p)) o.table o.names)
-    go (At c) s = record { tiled = s.tiled; fine = s.fine; within = s.within; roomy = s.roomy; limited = s.limited; based = noted-low c s.based; named = s.named }
-    go (Refused refusal) s = s
+    go : (p : Result FieldCursor Refusal) → Sound cat holder (building (state_after b.state p) o.table o.names) → Sound cat holder (building (state_after b.state (noted_in p)) o.table o.names)
+    go (Ok c) s = record { tiled = s.tiled; fine = s.fine; within = s.within; roomy = s.roomy; limited = s.limited; based = noted-low c s.based; named = s.named }
+    go (Err refusal) s = s
 
   module _ (ok : catalogue_ok cat ≡ true) where
     pad-width : (from size : ℕ) → width_ok cat (padding_field cat from size) ≡ true

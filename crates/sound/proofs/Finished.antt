@@ -30,12 +30,13 @@ use Rattle.rank.specs.Rank.{rank_of, rank_at}
 use Rattle.finishing.specs.Finish.{order_of, below, picked, sorted_in, finish_of}
 use Rattle.finishing.proofs.Sorting.{places-below}
 use Rattle.finishing.proofs.Picking.{sets-append, inside}
-use Rattle.cursor_rules.specs.declared.Placed.{Placed}
-use Rattle.cursor_rules.specs.declared.Placed.TheVariants.{At, Refused}
 use Rattle.sound.specs.Sound.{Sound, Filled, Limited, fields_in, lengths_in, short, table_of, tiles, covers, plain, after, state_after}
 use Rattle.sound.proofs.Rows.{same-field, front-fields}
 use Rattle.sound.proofs.Tiles.{tiles-chain, tiles-bounds, tiles-once}
 use Rattle.sound.proofs.Calls.{ended-sound}
+use Rattle.std.specs.Prelude.{Result, Ok, Err}
+use Rattle.limits.specs.declared.refusal.Refusal.{Refusal}
+use Rattle.cursor_rules.specs.declared.FieldCursor.{FieldCursor}
 
 -- ---- before finish
 
@@ -158,10 +159,10 @@ same_byte s t a b h =
 
 module _ (cat ids : List ℕ) (holder : Holder) (ok : catalogue_ok cat ≡ true) (b : Building) (s : Sound cat holder b) where
   -- what is sorted, of an outcome that left a sound building
-  sorted-filled : (o : Outcome) (p : Placed) → Sound cat holder (building (state_after b.state p) o.table o.names) → o.answer ≡ p
+  sorted-filled : (o : Outcome) (p : Result FieldCursor Refusal) → Sound cat holder (building (state_after b.state p) o.table o.names) → o.answer ≡ p
       → Filled cat (after b (sorted_in cat ids o p)).state.cursor (fields_of (table_of (after b (sorted_in cat ids o p))))
-  sorted-filled o (Refused refusal) s e = rw e (sound-filled cat holder (building b.state o.table o.names) s)
-  sorted-filled o (At c) s e =
+  sorted-filled o (Err refusal) s e = rw e (sound-filled cat holder (building b.state o.table o.names) s)
+  sorted-filled o (Ok c) s e =
       let r : c.count ≤ room (building c o.table o.names) = s.roomy in
       let l : length (sets o.table 0 (picked o.table 16 (order_of cat ids o.table c.count))) ≡ length o.table = length-sets o.table 0 (picked o.table 16 (order_of cat ids o.table c.count)) in
       rw (
@@ -174,10 +175,10 @@ module _ (cat ids : List ℕ) (holder : Holder) (ok : catalogue_ok cat ≡ true)
   finish-filled = sorted-filled (ended_of cat b) (ended_of cat b).answer (ended-sound cat holder ok b s) refl
 
   -- and their names are short still
-  named-sorted : (o : Outcome) (p : Placed) → Sound cat holder (building (state_after b.state p) o.table o.names) → o.answer ≡ p
+  named-sorted : (o : Outcome) (p : Result FieldCursor Refusal) → Sound cat holder (building (state_after b.state p) o.table o.names) → o.answer ≡ p
       → every short (lengths_in (after b (sorted_in cat ids o p))) ≡ true
-  named-sorted o (Refused refusal) s e = rw e s.named
-  named-sorted o (At c) s e =
+  named-sorted o (Err refusal) s e = rw e s.named
+  named-sorted o (Ok c) s e =
       let r : c.count ≤ room (building c o.table o.names) = s.roomy in
       every-picked byte_at 33 same_byte o.names c.count (omega arith) (rank_at cat ids o.table) short s.named
 
@@ -185,10 +186,10 @@ module _ (cat ids : List ℕ) (holder : Holder) (ok : catalogue_ok cat ≡ true)
   finish-named = named-sorted (ended_of cat b) (ended_of cat b).answer (ended-sound cat holder ok b s) refl
 
   -- no more fields than the holder may have, and no end past the limit
-  limits-sorted : (o : Outcome) (p : Placed) → Sound cat holder (building (state_after b.state p) o.table o.names) → o.answer ≡ p
+  limits-sorted : (o : Outcome) (p : Result FieldCursor Refusal) → Sound cat holder (building (state_after b.state p) o.table o.names) → o.answer ≡ p
       → Limited holder (after b (sorted_in cat ids o p)).state
-  limits-sorted o (Refused refusal) s e = rw e (sound-limited cat holder (building b.state o.table o.names) s)
-  limits-sorted o (At c) s e = sound-limited cat holder (building c o.table o.names) s
+  limits-sorted o (Err refusal) s e = rw e (sound-limited cat holder (building b.state o.table o.names) s)
+  limits-sorted o (Ok c) s e = sound-limited cat holder (building c o.table o.names) s
 
   pub finish-limited : Limited holder (after b (finish_of cat ids b)).state
   finish-limited = limits-sorted (ended_of cat b) (ended_of cat b).answer (ended-sound cat holder ok b s) refl

@@ -1,5 +1,5 @@
 -- What holds of a building after every call: its fields lie one behind the other from 0 to the cursor, none is refused, and there are not too many.
-use Rattle.std.specs.Prelude.{ℕ, ◌*◌, ◌≤◌, ◌≡◌, Bool, true, cond, ◌&&◌, List, [], ◌∷◌, leb, ltb, eqb, take}
+use Rattle.std.specs.Prelude.{Result, Ok, Err, ℕ, ◌*◌, ◌≤◌, ◌≡◌, Bool, true, cond, ◌&&◌, List, [], ◌∷◌, leb, ltb, eqb, take}
 use Rattle.limits.specs.Limits.{max_bytes, max_name}
 use Rattle.lent.specs.Bytes.{byte_at}
 use Rattle.lent.specs.Scan.{gather, every, tally}
@@ -10,8 +10,7 @@ use Rattle.table_rules.specs.declared.Rule.{Rule}
 use Rattle.field.specs.declared.Holder.{Holder}
 use Rattle.cursor_rules.specs.Cursor.{Building, building, Outcome, room, field_limit}
 use Rattle.cursor_rules.specs.declared.FieldCursor.{FieldCursor}
-use Rattle.cursor_rules.specs.declared.Placed.{Placed}
-use Rattle.cursor_rules.specs.declared.Placed.TheVariants.{At, Refused}
+use Rattle.limits.specs.declared.refusal.Refusal.{Refusal}
 
 -- fields with a size, the first at `from`, each where the one before it ends, the last up to `to`
 unfoldable pub tiles : ℕ → ℕ → List FieldDef → Bool
@@ -61,9 +60,9 @@ pub record Limited (holder : Holder) (c : FieldCursor) : Type 0 where
   pub based : c.base ≤ c.cursor
 
 -- what one goes on with: the state that was answered, and after a refusal the one before
-abbrev pub state_after : FieldCursor → Placed → FieldCursor
-state_after c (At d) = d
-state_after c (Refused refusal) = c
+abbrev pub state_after : FieldCursor → Result FieldCursor Refusal → FieldCursor
+state_after c (Ok d) = d
+state_after c (Err refusal) = c
 
 abbrev pub after : Building → Outcome → Building
 after b o = building (state_after b.state o.answer) o.table o.names

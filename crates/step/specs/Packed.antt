@@ -1,6 +1,6 @@
 -- A step in 16 bytes: 0 a copy or 1 an integer; the sign; the mark; a zero; four numbers of two bytes, source offset, target offset,
 -- size and the integer's target size; four zeros.
-use Rattle.std.specs.Prelude.{ℕ, ◌+◌, Bool, cond, ◌&&◌, List, [], ◌∷◌, ◌++◌, leb, eqb}
+use Rattle.std.specs.Prelude.{ℕ, ◌+◌, ◌/◌, Bool, cond, ◌&&◌, List, [], ◌∷◌, ◌++◌, leb, eqb, length}
 use Rattle.lent.specs.Bytes.{byte_at, number_at, bytes_of}
 use Rattle.lent.specs.Scan.{gather}
 use Rattle.step.specs.declared.Op.{Op}
@@ -39,3 +39,7 @@ flags_ok p at = leb (byte_at p at) 1 && (leb (byte_at p (at + 1)) 1 && leb (byte
 -- n steps from `at` on
 abbrev pub steps_at : List ℕ → ℕ → ℕ → List Step
 steps_at p at n = gather (step_at p) 16 at n
+
+-- as many as stand whole in lent bytes
+abbrev pub steps_of : List ℕ → List Step
+steps_of p = steps_at p 0 (length p / 16)

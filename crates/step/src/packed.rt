@@ -1,6 +1,6 @@
 // A step in 16 bytes of a lent plan.
 ghost use Rattle.std.specs.Prelude.{◌≡◌, ◌+◌, ◌≤◌, length};
-ghost use Rattle.step.specs.Packed.{packed_as, packed_of, op_at, step_at, flags_ok};
+ghost use Rattle.step.specs.Packed.{packed_as, packed_of, op_at, step_at, steps_of, flags_ok};
 
 use crate::{Op, Step};
 
@@ -32,32 +32,33 @@ fn packed_as(kind: u8, sign: u8, mark: u8, source: u16, target: u16, from: u16, 
     ]
 }
 
-pub fn packed(step: Step) -> Packed
-    ensures { result ≡ packed_of step }
-{
-    let op = step.op;
-    match op {
-        Op::Copy {
-            src_offset,
-            dst_offset,
-            size,
-        } => packed_as(0, 0, 0, src_offset, dst_offset, size, 0),
-        Op::Int {
-            src_offset,
-            dst_offset,
-            src_size,
-            dst_size,
-            signed,
-            has_undef_max,
-        } => packed_as(
-            1,
-            lent::one(signed),
-            lent::one(has_undef_max),
-            src_offset,
-            dst_offset,
-            src_size,
-            dst_size,
-        ),
+impl Step {
+    pub fn packed(self) -> Packed
+        ensures { result ≡ packed_of self }
+    {
+        match self.op {
+            Op::Copy {
+                src_offset,
+                dst_offset,
+                size,
+            } => packed_as(0, 0, 0, src_offset, dst_offset, size, 0),
+            Op::Int {
+                src_offset,
+                dst_offset,
+                src_size,
+                dst_size,
+                signed,
+                has_undef_max,
+            } => packed_as(
+                1,
+                lent::one(signed),
+                lent::one(has_undef_max),
+                src_offset,
+                dst_offset,
+                src_size,
+                dst_size,
+            ),
+        }
     }
 }
 
@@ -72,7 +73,7 @@ fn op_in(p: &[u8], at: usize) -> Op
         return Op::Copy {
             src_offset: source,
             dst_offset: target,
-            size: size,
+            size,
         };
     }
     Op::Int {
@@ -97,4 +98,36 @@ pub fn flags_ok(p: &[u8], at: usize) -> bool
     ensures { result ≡ flags_ok p.now at }
 {
     (p[at] <= 1) & ((p[at + 1] <= 1) & (p[at + 2] <= 1))
+}
+
+// The steps that stand packed in lent bytes, one after the other.
+#[derive(Drop)]
+pub struct Unpacked<'a> {
+    pub rest: &'a [u8],
+}
+
+impl<'a> Iterator for Unpacked<'a> {
+    ghost use Rattle.std.specs.Iterator.{YieldsFirst, item_count};
+
+    type Item = Step;
+
+    ghost next_gives = { YieldsFirst (λ steps. steps_of steps.rest.now) };
+
+    ghost remaining = { item_count (λ steps. steps_of steps.rest.now) };
+
+    fn next(&mut self) -> Option<Step> {
+        if self.rest.len() < SIZE {
+            return None;
+        }
+        let step = step_in(self.rest, 0);
+        self.rest = &self.rest[SIZE..];
+        Some(step)
+    }
+}
+
+// Bytes behind the last whole step are none of them.
+pub fn steps_in(p: &[u8]) -> Unpacked<'_>
+    ensures { steps_of result.rest.now ≡ steps_of p.now }
+{
+    Unpacked { rest: p }
 }

@@ -1,17 +1,16 @@
 -- The steps of a plan: in target order, neighbours joined.
-use Rattle.std.specs.Prelude.{ℕ, List, [], ◌∷◌}
+use Rattle.std.specs.Prelude.{ℕ, List, [], ◌∷◌, Some, None}
+use Rattle.std.specs.declared.option.Option.{Option}
 use Rattle.field.specs.declared.FieldDef.{FieldDef}
 use Rattle.field.specs.Order.{sort_by}
 use Rattle.step.specs.declared.Step.{Step}
 use Rattle.coalesce.specs.Joins.{join_all}
 use Rattle.plan_rules.specs.Rule.{Want, step_of}
-use Rattle.plan_rules.specs.declared.Carried.{Carried}
-use Rattle.plan_rules.specs.declared.Carried.TheVariants.{By, Default}
 
 -- one for each field that is carried
-abbrev pub before : Carried → List Step → List Step
-before Default ss = ss
-before (By s) ss = s ∷ ss
+abbrev pub before : Option Step → List Step → List Step
+before None ss = ss
+before (Some s) ss = s ∷ ss
 
 unfoldable pub steps_of : List ℕ → List FieldDef → List Want → List Step
 steps_of cat haves [] = []

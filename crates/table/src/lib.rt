@@ -1,13 +1,14 @@
 // Refusals 3 to 6 of one table.
 #![tactic(auto)]
 
-ghost use Rattle.std.specs.Prelude.{◌≡◌, map, ◌+◌, ◌*◌, ◌<◌, ◌≤◌, length, take};
-ghost use Rattle.lent.specs.Scan.{gather, every};
+ghost use Rattle.std.specs.Prelude.{◌≡◌, map};
+ghost use Rattle.lent.specs.Scan.{every};
 ghost use Rattle.field.specs.Field.{field_at, fields_of};
 ghost use Rattle.table_rules.specs.Table.{reserved_zero, share_byte, clear_of, apart, width_ok, table_ok};
 ghost use Rattle.table_rules.specs.Parts.{field_ok, chain, alone, tidy};
 
 use field::FieldDef;
+use field::rows::rows_of;
 use table_rules::Rule;
 
 // ---- field by field
@@ -15,8 +16,7 @@ use table_rules::Rule;
 fn width_ok(cat: &[u8], f: FieldDef) -> bool
     ensures { result ≡ width_ok cat.now f }
 {
-    let width = lent::wide8(catalogue::width_of(cat, f.type_id));
-    !field::is_plain_integer(cat, f) | (lent::wide16(f.size) == width)
+    !field::is_plain_integer(cat, f) | (f.size == u16::from(catalogue::width_of(cat, f.type_id)))
 }
 
 fn field_ok(rule: Rule, cat: &[u8], most: usize, f: FieldDef) -> bool
@@ -33,17 +33,7 @@ fn field_ok(rule: Rule, cat: &[u8], most: usize, f: FieldDef) -> bool
 fn fields_ok(rule: Rule, cat: &[u8], most: usize, t: &[u8]) -> bool
     ensures { result ≡ every (field_ok rule cat.now most) (fields_of t.now) }
 {
-    let mut at = 0;
-    let mut left = t.len() / field::SIZE;
-    while left != 0 {
-        let good = field_ok(rule, cat, most, field::field_in(t, at));
-        if !good {
-            return false;
-        }
-        at += field::SIZE;
-        left -= 1;
-    }
-    true
+    rows_of(t).all(|f| field_ok(rule, cat, most, f))
 }
 
 // Refusal 3 alone: the rule reads neither catalogue nor limit.
@@ -58,40 +48,22 @@ pub fn reserved_ok(t: &[u8]) -> bool
 fn share_byte(f: FieldDef, g: FieldDef) -> bool
     ensures { result ≡ share_byte f g }
 {
-    let from = lent::greater(lent::wide16(f.offset), lent::wide16(g.offset));
-    let to = lent::lesser(field::end_of(f), field::end_of(g));
-    from < to
+    usize::from(f.offset.max(g.offset)) < field::end_of(f).min(field::end_of(g))
 }
 
-// Does f share no byte with the n fields from a place on?
-fn clear_of(f: FieldDef, t: &[u8], from: usize, n: usize) -> bool
-    requires { from + 16 * n ≤ length t.now }
-    ensures { result ≡ every (clear_of f) (gather (field_at t.now) 16 from n) }
+// Does f share no byte with any field of a table?
+fn clear_of(f: FieldDef, t: &[u8]) -> bool
+    ensures { result ≡ every (clear_of f) (fields_of t.now) }
 {
-    let mut at = from;
-    let mut left = n;
-    while left != 0 {
-        let shared = share_byte(f, field::field_in(t, at));
-        if shared {
-            return false;
-        }
-        at += field::SIZE;
-        left -= 1;
-    }
-    true
+    rows_of(t).all(|g| !share_byte(f, g))
 }
 
 fn pairs_ok(t: &[u8]) -> bool
     ensures { result ≡ apart (fields_of t.now) }
 {
-    let mut at = 0;
-    let mut left = t.len() / field::SIZE;
-    while left != 0 {
-        let f = field::field_in(t, at);
-        at += field::SIZE;
-        left -= 1;
-        let good = clear_of(f, t, at, left);
-        if !good {
+    let mut rows = rows_of(t);
+    while let Some(f) = rows.next() {
+        if !clear_of(f, rows.rest) {
             return false;
         }
     }
@@ -100,21 +72,17 @@ fn pairs_ok(t: &[u8]) -> bool
 
 // ---- in offset order: fields that follow each other share no byte
 
-// Do the fields at the first n places follow each other?
-fn chain_ok(t: &[u8], n: usize, order: &[u16]) -> bool
-    requires { n ≤ length order.now }
-    ensures { result ≡ chain 0 (map (field_at t.now) (take n order.now)) }
+// Do the fields at these places follow each other?
+fn chain_ok(t: &[u8], order: &[u16]) -> bool
+    ensures { result ≡ chain 0 (map (field_at t.now) order.now) }
 {
     let mut low = 0;
-    let mut k = 0;
-    while k < n {
-        let place = order[k];
-        let from = field::order::offset_at(t, place);
+    for place in order {
+        let from = field::order::offset_at(t, *place);
         if from < low {
             return false;
         }
-        low = from + field::order::size_at(t, place);
-        k += 1;
+        low = from + field::order::size_at(t, *place);
     }
     true
 }
@@ -127,7 +95,7 @@ fn apart_ok(t: &[u8]) -> bool
     if n <= limits::MAX_FIELDS {
         let mut order = [0u16; limits::MAX_FIELDS];
         field::order::by_offset(t, n, &mut order);
-        if chain_ok(t, n, &order) {
+        if chain_ok(t, &order[..n]) {
             return true;
         }
     }
@@ -138,10 +106,8 @@ pub fn table_ok(rule: Rule, cat: &[u8], most: usize, t: &[u8]) -> bool
     ensures { result ≡ table_ok rule cat.now most (fields_of t.now) }
 {
     match rule {
-        Rule::Reserved => fields_ok(rule, cat, most, t),
-        Rule::Bounds => fields_ok(rule, cat, most, t),
         Rule::Apart => apart_ok(t),
-        Rule::Width => fields_ok(rule, cat, most, t),
+        Rule::Reserved | Rule::Bounds | Rule::Width => fields_ok(rule, cat, most, t),
     }
 }
 
@@ -158,17 +124,11 @@ pub fn tidy_ok(cat: &[u8], most: usize, t: &[u8]) -> bool
     ensures { result ≡ tidy cat.now most 0 (fields_of t.now) }
 {
     let mut low = 0;
-    let mut at = 0;
-    let mut left = t.len() / field::SIZE;
-    while left != 0 {
-        let f = field::field_in(t, at);
-        let good = (low <= lent::wide16(f.offset)) & alone_ok(cat, most, f);
-        if !good {
+    for f in rows_of(t) {
+        if !((low <= usize::from(f.offset)) & alone_ok(cat, most, f)) {
             return false;
         }
         low = field::end_of(f);
-        at += field::SIZE;
-        left -= 1;
     }
     true
 }

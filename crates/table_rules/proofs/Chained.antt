@@ -1,14 +1,13 @@
 -- Fields that follow each other lie apart, and the order that they stand in does not matter to that. Assumes nothing.
 use mathlib.Core.Path.{◌≡◌, refl, sym, ap, ◌∙◌}
 use mathlib.Core.Bool.{Bool, true, false, cond, not, ◌&&◌}
-use mathlib.Core.List.{List, [], ◌∷◌, map}
-use Prim.Native.Nat.{ℕ, ◌+◌, ◌≤◌, ◌<◌, min, max}
+use mathlib.Core.List.{List, [], ◌∷◌}
+use Prim.Native.Nat.{ℕ, ◌≤◌, ◌<◌, min, max}
 use native.Mathlib.Omega.{arith}
 use borrow.Author.Tests.{leb-true, le-leb, lt-leb, le-ltb}
 use lib.Dec.{leb}
-use lib.ListN.{length, get_or, take, drop}
 use Rattle.lent.specs.Scan.{every}
-use Rattle.lent.proofs.Scan.{both, entry, no-entry}
+use Rattle.lent.proofs.Scan.{both}
 use Rattle.field.specs.Field.{end_of}
 use Rattle.field.specs.declared.FieldDef.{FieldDef}
 use Rattle.field.proofs.Kept.{every-insert, every-sorted}
@@ -71,20 +70,17 @@ module _ (key : FieldDef → ℕ) where
 pub chained : (fs : List FieldDef) → chain 0 (by_offset fs) ≡ true → true ≡ apart fs
 chained fs e = sym (chain-apart 0 (by_offset fs) e) ∙ apart-sorted offset_of fs
 
--- ---- a turn of the loop over an order
+-- ---- a turn of the loop over fields that follow each other
 
-module _ (F : ℕ → FieldDef) (low k n : ℕ) (o : List ℕ) (all : Bool) (so : chain low (map F (drop k (take n o))) ≡ all) where
-  module _ (fits : n ≤ length o) (h : k < n) where
-    turn : (leb low (F (get_or o k 0)).offset && chain (end_of (F (get_or o k 0))) (map F (drop (k + 1) (take n o)))) ≡ all
-    unfolding chain
-    turn = rw (entry o n k fits h) at so
-
-    pub chain-stops : (F (get_or o k 0)).offset < low → false ≡ all
-    chain-stops g = rw (lt-leb _ _ g) at turn
-
-    pub chain-goes : low ≤ (F (get_or o k 0)).offset → chain (end_of (F (get_or o k 0))) (map F (drop (k + 1) (take n o))) ≡ all
-    chain-goes g = rw (le-leb _ _ g) at turn
-
-  pub chain-ends : n ≤ k → true ≡ all
+module _ {left : List FieldDef} {all : Bool} (low : ℕ) (so : chain low left ≡ all) where
+  pub chain-stops : {f : FieldDef} {fs : List FieldDef} → left ≡ f ∷ fs → f.offset < low → false ≡ all
   unfolding chain
-  chain-ends h = rw (no-entry o n k h) at so
+  chain-stops e h = rw (e, lt-leb _ _ h) at so
+
+  pub chain-goes : {f : FieldDef} {fs : List FieldDef} → left ≡ f ∷ fs → low ≤ f.offset → chain (end_of f) fs ≡ all
+  unfolding chain
+  chain-goes e h = rw (e, le-leb _ _ h) at so
+
+  pub chain-ends : left ≡ [] → true ≡ all
+  unfolding chain
+  chain-ends e = rw e at so

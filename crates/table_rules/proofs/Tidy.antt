@@ -2,10 +2,10 @@
 use mathlib.Core.Path.{◌≡◌, refl}
 use mathlib.Core.Bool.{Bool, true, false, ◌&&◌}
 use mathlib.Core.List.{List, [], ◌∷◌}
-use Prim.Native.Nat.{ℕ, ◌+◌, ◌-◌, ◌<◌}
+use Prim.Native.Nat.{ℕ}
 use lib.Dec.{leb}
-use Rattle.lent.specs.Scan.{gather, every}
-use Rattle.lent.proofs.Scan.{turn, none, both}
+use Rattle.lent.specs.Scan.{every}
+use Rattle.lent.proofs.Scan.{both}
 use Rattle.field.specs.Field.{end_of}
 use Rattle.field.specs.declared.FieldDef.{FieldDef}
 use Rattle.table_rules.specs.Table.{reserved_zero, in_bounds, width_ok, table_ok}
@@ -45,17 +45,15 @@ module _ (cat : List ℕ) (most : ℕ) where
 
   -- ---- a turn of the loop
 
-  module _ (F : ℕ → FieldDef) (low at n : ℕ) (all : Bool) (so : tidy cat most low (gather F 16 at n) ≡ all) where
-    tidy-turn : 0 < n → ((leb low (F at).offset && alone cat most (F at)) && tidy cat most (end_of (F at)) (gather F 16 (at + 16) (n - 1))) ≡ all
+  module _ {left : List FieldDef} {all : Bool} (low : ℕ) (so : tidy cat most low left ≡ all) where
+    pub tidy-stops : {f : FieldDef} {fs : List FieldDef} → left ≡ f ∷ fs → (leb low f.offset && alone cat most f) ≡ false → false ≡ all
     unfolding tidy
-    tidy-turn h = rw (turn F 16 at n h) at so
+    tidy-stops e t = rw (e, t) at so
 
-    pub tidy-stops : 0 < n → (leb low (F at).offset && alone cat most (F at)) ≡ false → false ≡ all
-    tidy-stops h f = rw f at (tidy-turn h)
-
-    pub tidy-goes : 0 < n → (leb low (F at).offset && alone cat most (F at)) ≡ true → tidy cat most (end_of (F at)) (gather F 16 (at + 16) (n - 1)) ≡ all
-    tidy-goes h f = rw f at (tidy-turn h)
-
-    pub tidy-ends : n ≡ 0 → true ≡ all
+    pub tidy-goes : {f : FieldDef} {fs : List FieldDef} → left ≡ f ∷ fs → (leb low f.offset && alone cat most f) ≡ true → tidy cat most (end_of f) fs ≡ all
     unfolding tidy
-    tidy-ends e = rw (none F 16 at n e) at so
+    tidy-goes e t = rw (e, t) at so
+
+    pub tidy-ends : left ≡ [] → true ≡ all
+    unfolding tidy
+    tidy-ends e = rw e at so

@@ -2,7 +2,7 @@
 #![tactic(auto)]
 
 // What is tested of a table, in the order of the refusals.
-#[derive(Clone, Copy)]
+#[derive(Clone, Copy, Debug, PartialEq, Eq)]
 pub enum Rule {
     Reserved,
     Bounds,

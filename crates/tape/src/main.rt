@@ -2,32 +2,23 @@
 // less has to be proved for it.
 #![tactic(auto)]
 
-use owl_say::files;
-use owl_say::files::{Loaded, Text};
+use owl_say::console::Console;
 use std::io;
-use std::rt::Env;
 
 // dbn's header in versions 1 to 3.
 const HEADER: usize = 16;
 
-fn upgrade(
-    rt: &(impl Env + Input + Print),
-    stderr: &impl Print,
-    text: &Text,
-    n: usize,
-) -> io::Result<()> {
-    let mut slot = [0u8; slot::SIZE];
-    if owl_tape::read(rt, stderr, text, n, 1, &mut slot)? {
-        owl_tape::run(rt, &slot, HEADER)?;
-    }
-    Ok(())
-}
-
 fn main(rt: HostRuntime) -> io::Result<()> {
-    let mut text = [0u8; files::ROOM];
     let stderr = rt.stderr();
-    match files::load(&rt, &stderr, 1, &mut text)? {
-        Loaded::Bytes(n) => upgrade(&rt, &stderr, &text, n),
-        Loaded::Failed => Ok(()),
+    let console = Console {
+        rt: &rt,
+        stderr: &stderr,
+    };
+    let Some(text) = console.load(1)? else {
+        return Ok(());
+    };
+    match owl_tape::read(&rt, &stderr, text.as_slice(), 1)? {
+        Some(slot) => owl_tape::run(&rt, &slot, HEADER),
+        None => Ok(()),
     }
 }

@@ -12,72 +12,46 @@ ghost use Rattle.std.specs.Prelude.{◌≡◌};
 ghost use Rattle.admission_rules.specs.Admission.{admit_catalogue, admit_of};
 ghost use Rattle.tuppenceowl.specs.Answers.{alone_ok, sized_of, windowed_of, found_of};
 
-pub use admission_rules::Admitted;
 use field::{FieldDef, Holder};
 use layout::block;
-use limits::refusal::Refusal;
-
-#[derive(Clone, Copy)]
-pub enum Sized {
-    Bytes(usize),
-    NoRecord,
-    Refused(Refusal),
-}
-
-#[derive(Clone, Copy)]
-pub enum Windowed {
-    Within(usize, usize),
-    Past,
-}
-
-#[derive(Clone, Copy)]
-pub enum Found {
-    Field(FieldDef),
-    NoField,
-    Refused(Refusal),
-}
+use limits::refusal::{Failure, Refusal};
 
 // Is the catalogue valid (refusal 1)?
-pub fn check_catalogue(cat: &[u8]) -> Admitted
+pub fn check_catalogue(cat: &[u8]) -> Result<(), Refusal>
     ensures { result ≡ admit_catalogue cat.now }
 {
     if catalogue::catalogue_ok(cat) {
-        return Admitted::Fine;
+        return Ok(());
     }
-    Admitted::Refused(Refusal::BadCatalogue)
+    Err(Refusal::BadCatalogue)
 }
 
 // Is the layout admitted under the catalogue (refusals 1 to 6)?
-pub fn admit(cat: &[u8], layout: &[u8]) -> Admitted
+pub fn admit(cat: &[u8], layout: &[u8]) -> Result<(), Refusal>
     ensures { result ≡ admit_of cat.now layout.now }
 {
     admission::admit(cat, layout)
 }
 
 // record_size of record k of an admitted layout.
-pub fn record_size(cat: &[u8], layout: &[u8], k: usize) -> Sized
+pub fn record_size(cat: &[u8], layout: &[u8], k: usize) -> Result<usize, Failure>
     ensures { result ≡ sized_of cat.now layout.now k }
 {
-    match admission::admit(cat, layout) {
-        Admitted::Refused(refusal) => Sized::Refused(refusal),
-        Admitted::Fine => {
-            if k < block::count_of(Holder::Record, layout) {
-                Sized::Bytes(record_size::record_size(layout, block::record_head(k)))
-            } else {
-                Sized::NoRecord
-            }
-        }
+    admission::admit(cat, layout)?;
+    if k < block::count_of(Holder::Record, layout) {
+        return Ok(record_size::record_size(layout, block::record_head(k)));
     }
+    Err(Failure::NoRecord)
 }
 
 // window of dbn's layout.rs: where it starts and ends, if it lies inside.
-pub fn window(bytes: &[u8], offset: usize, size: usize) -> Windowed
+pub fn window(bytes: &[u8], offset: usize, size: usize) -> Option<(usize, usize)>
     ensures { result ≡ windowed_of bytes.now offset size }
 {
     if lent::has_window(bytes, offset, size) {
-        return Windowed::Within(offset, offset + size);
+        return Some((offset, offset + size));
     }
-    Windowed::Past
+    None
 }
 
 fn alone_ok(table: &[u8]) -> bool
@@ -87,18 +61,18 @@ fn alone_ok(table: &[u8]) -> bool
     (n % field::SIZE == 0) & (n <= field::SIZE * limits::MAX_FIELDS)
 }
 
-// Field k of a table that is lent alone (refusals 2 and 3).
-pub fn field_of(table: &[u8], k: usize) -> Found
+// Field k of a table that is lent alone, if it has so many (refusals 2 and 3).
+pub fn field_of(table: &[u8], k: usize) -> Result<Option<FieldDef>, Refusal>
     ensures { result ≡ found_of table.now k }
 {
     if !alone_ok(table) {
-        return Found::Refused(Refusal::BadShape);
+        return Err(Refusal::BadShape);
     }
     if !table::reserved_ok(table) {
-        return Found::Refused(Refusal::ReservedByte);
+        return Err(Refusal::ReservedByte);
     }
     if k < table.len() / field::SIZE {
-        return Found::Field(field::field_in(table, field::SIZE * k));
+        return Ok(Some(field::field_in(table, field::SIZE * k)));
     }
-    Found::NoField
+    Ok(None)
 }

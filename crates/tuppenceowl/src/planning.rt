@@ -3,21 +3,19 @@ ghost use Rattle.std.specs.Prelude.{◌≡◌, length};
 ghost use Rattle.planner.specs.Planner.{planned_of, after_plan};
 ghost use Rattle.planner.specs.Select.{selected_of};
 
-pub use planner::Planned;
-pub use planner::select::Selected;
+use limits::refusal::Failure;
 
-// The selection of dbn's Upgrader::new: which target record the source's record k is upgraded to.
+// The selection of dbn's Upgrader::new: which target record the source's record k is upgraded to, if any; one of the schema first, if one is wanted.
 pub fn select(
     cat: &[u8],
     source: &[u8],
     k: usize,
     target: &[u8],
-    wanted: bool,
-    schema: u16,
-) -> Selected
-    ensures { result ≡ selected_of cat.now source.now k target.now wanted schema }
+    schema: Option<u16>,
+) -> Result<Option<usize>, Failure>
+    ensures { result ≡ selected_of cat.now source.now k target.now schema }
 {
-    planner::select::select(cat, source, k, target, wanted, schema)
+    planner::select::select(cat, source, k, target, schema)
 }
 
 // UpgradePlan::new (refusals 7 and 8 too, and 11 where the room is short of a slot).
@@ -31,7 +29,7 @@ pub fn plan(
     body: &[u8],
     marks: &[u8],
     room: &mut [u8],
-) -> Planned
+) -> Result<(), Failure>
     ensures answer { result ≡ planned_of cat.now source.now k target.now to header body.now marks.now (length room.old) }
     ensures room { room.new ≡ after_plan cat.now source.now k target.now to header body.now marks.now room.old }
 {

@@ -2,10 +2,11 @@
 ghost use Rattle.std.specs.Prelude.{◌≡◌};
 ghost use Rattle.dispatch.specs.Dispatch.{applied_of, after_apply, upgraded_of, after_upgrade};
 
-use dispatch::Upgraded;
+pub use dispatch::Upgraded;
+use limits::refusal::Refusal;
 
 // UpgradePlan::apply of dbn's upgrade.rs (refusals 9, 11, 16).
-pub fn apply(slot: &[u8], src: &[u8], stated: usize, dst: &mut [u8]) -> Upgraded
+pub fn apply(slot: &[u8], src: &[u8], stated: usize, dst: &mut [u8]) -> Result<Upgraded, Refusal>
     ensures answer { result ≡ applied_of slot.now src.now stated dst.old }
     ensures target { dst.new ≡ after_apply slot.now src.now stated dst.old }
 {
@@ -22,7 +23,7 @@ pub fn upgrade(
     src: &[u8],
     stated: usize,
     dst: &mut [u8],
-) -> Upgraded
+) -> Result<Upgraded, Refusal>
     ensures answer { result ≡ upgraded_of plans.now unplanned.now rtype src_header dst_header src.now stated dst.old }
     ensures target { dst.new ≡ after_upgrade plans.now unplanned.now rtype src_header dst_header src.now stated dst.old }
 {

@@ -4,10 +4,11 @@ use mathlib.Core.List.{List}
 use mathlib.Core.Path.{◌≡◌, ◌∙◌, ap}
 use Rattle.cursor_rules.specs.Cursor.{Building, building, Outcome, outcome}
 use Rattle.cursor_rules.specs.declared.FieldCursor.{FieldCursor}
-use Rattle.cursor_rules.specs.declared.Placed.{Placed}
+use Rattle.std.specs.Prelude.{Result}
+use Rattle.limits.specs.declared.refusal.Refusal.{Refusal}
 use Rattle.tuppenceowl_c.specs.Building.{state_in, lent_to, placed_status, state_or, hosted, hosted_of}
 
-pub telling : (call : Building → Outcome) (s t ns : List ℕ) {u v ms : List ℕ} {c : FieldCursor} {p : Placed} {r : ℕ}
+pub telling : (call : Building → Outcome) (s t ns : List ℕ) {u v ms : List ℕ} {c : FieldCursor} {p : Result FieldCursor Refusal} {r : ℕ}
     → c ≡ state_in s → outcome p v ms ≡ call (building c t ns) → (r ≡ placed_status p) × (u ≡ state_or p s)
     → hosted r u v ms ≡ hosted_of (call (lent_to s t ns)) s
 telling call s t ns {u} {v} {ms} {c} {p} {r} taken answered told =

@@ -3,20 +3,17 @@
 use mathlib.Core.Path.{◌≡◌, sym, ap, ◌∙◌}
 use mathlib.Core.List.{List}
 use Prim.Native.Nat.{ℕ}
+use mathlib.Core.Bool.{Bool}
+use Rattle.std.specs.Prelude.{Option, Result}
+use Rattle.limits.specs.declared.refusal.Refusal.{Refusal}
+use Rattle.limits.specs.declared.refusal.Failure.{Failure}
+use Rattle.field.specs.declared.FieldDef.{FieldDef}
+use Rattle.compare.specs.declared.answer.Verdict.{Verdict}
+use Rattle.hash_rules.specs.declared.Walked.{Walked}
 use Rattle.admission_rules.specs.Admission.{status_of}
-use Rattle.admission_rules.specs.declared.Admitted.{Admitted}
 use Rattle.cursor_rules.specs.declared.FieldCursor.{FieldCursor}
 use Rattle.dispatch.specs.declared.Upgraded.{Upgraded}
-use Rattle.planner.specs.declared.Planned.{Planned}
-use Rattle.planner.specs.declared.select.Selected.{Selected}
-use Rattle.plan_text.specs.declared.writer.Written.{Written}
 use Rattle.tuppenceowl.proofs.Unique.{read-plan-unique}
-use Rattle.tuppenceowl.specs.declared.Found.{Found}
-use Rattle.tuppenceowl.specs.declared.Sized.{Sized}
-use Rattle.tuppenceowl.specs.declared.Windowed.{Windowed}
-use Rattle.tuppenceowl.specs.declared.comparing.Judged.{Judged}
-use Rattle.tuppenceowl.specs.declared.hashing.Booted.{Booted}
-use Rattle.tuppenceowl.specs.declared.hashing.Summed.{Summed}
 use Rattle.tuppenceowl_c.specs.Admitting.{sized_status, bytes_or, windowed_status, start_or, end_or}
 use Rattle.tuppenceowl_c.specs.Building.{state_out, Hosted, hosted}
 use Rattle.tuppenceowl_c.specs.Comparing.{judged_status}
@@ -32,56 +29,56 @@ equal p q = p ∙ sym q
 -- ---- a status alone; `owl_sum` promises what `sum` does
 
 -- owl_check_catalogue, owl_admit, owl_check_plan
-pub owl-admitted-unique : (promised : Admitted) (r s : ℕ) → r ≡ status_of promised → s ≡ status_of promised → r ≡ s
+pub owl-admitted-unique : (promised : Result (Unit {0}) Refusal) (r s : ℕ) → r ≡ status_of promised → s ≡ status_of promised → r ≡ s
 owl-admitted-unique promised r s = equal
 
 -- owl_verdict, owl_verdict_of
-pub owl-judged-unique : (promised : Judged) (r s : ℕ) → r ≡ judged_status promised → s ≡ judged_status promised → r ≡ s
+pub owl-judged-unique : (promised : Result Verdict Failure) (r s : ℕ) → r ≡ judged_status promised → s ≡ judged_status promised → r ≡ s
 owl-judged-unique promised r s = equal
 
-pub owl-boot-check-unique : (promised : Booted) (r s : ℕ) → r ≡ booted_status promised → s ≡ booted_status promised → r ≡ s
+pub owl-boot-check-unique : (promised : Result Bool Failure) (r s : ℕ) → r ≡ booted_status promised → s ≡ booted_status promised → r ≡ s
 owl-boot-check-unique promised r s = equal
 
 -- ---- a status and lent numbers
 
-pub owl-record-size-unique : (promised : Sized) (size r s n m : ℕ)
+pub owl-record-size-unique : (promised : Result ℕ Failure) (size r s n m : ℕ)
     → r ≡ sized_status promised → n ≡ bytes_or promised size → s ≡ sized_status promised → m ≡ bytes_or promised size → (r ≡ s) × (n ≡ m)
 owl-record-size-unique promised size r s n m er en es em = (equal er es, equal en em)
 
-pub owl-window-unique : (promised : Windowed) (start end r s a b e f : ℕ)
+pub owl-window-unique : (promised : Option (ℕ × ℕ)) (start end r s a b e f : ℕ)
     → r ≡ windowed_status promised → a ≡ start_or promised start → e ≡ end_or promised end
     → s ≡ windowed_status promised → b ≡ start_or promised start → f ≡ end_or promised end → (r ≡ s) × (a ≡ b) × (e ≡ f)
 owl-window-unique promised start end r s a b e f er ea ee es eb ef = (equal er es, equal ea eb, equal ee ef)
 
 -- owl_layout_hash, owl_layout_hash_within
-pub owl-summed-unique : (promised : Summed) (hash visits r s h i v w : ℕ)
+pub owl-summed-unique : (promised : Result Walked Failure) (hash visits r s h i v w : ℕ)
     → r ≡ summed_status promised → h ≡ hash_or promised hash → v ≡ visits_or promised visits
     → s ≡ summed_status promised → i ≡ hash_or promised hash → w ≡ visits_or promised visits → (r ≡ s) × (h ≡ i) × (v ≡ w)
 owl-summed-unique promised hash visits r s h i v w er eh ev es ei ew = (equal er es, equal eh ei, equal ev ew)
 
-pub owl-select-unique : (promised : Selected) (number r s n m : ℕ)
+pub owl-select-unique : (promised : Result (Option ℕ) Failure) (number r s n m : ℕ)
     → r ≡ selected_status promised → n ≡ record_or promised number → s ≡ selected_status promised → m ≡ record_or promised number → (r ≡ s) × (n ≡ m)
 owl-select-unique promised number r s n m er en es em = (equal er es, equal en em)
 
 -- ---- a status, lent numbers and lent bytes
 
 -- owl_field_of, owl_field_by_id, owl_field_by_name
-pub owl-found-unique : (promised : Found) (field : List ℕ) (r s : ℕ) (f g : List ℕ)
+pub owl-found-unique : (promised : Result (Option FieldDef) Refusal) (field : List ℕ) (r s : ℕ) (f g : List ℕ)
     → r ≡ found_status promised → f ≡ field_or promised field → s ≡ found_status promised → g ≡ field_or promised field → (r ≡ s) × (f ≡ g)
 owl-found-unique promised field r s f g er ef es eg = (equal er es, equal ef eg)
 
-pub owl-plan-unique : (promised : Planned) (left : List ℕ) (r s : ℕ) (d e : List ℕ)
+pub owl-plan-unique : (promised : Result (Unit {0}) Failure) (left : List ℕ) (r s : ℕ) (d e : List ℕ)
     → r ≡ planned_status promised → d ≡ left → s ≡ planned_status promised → e ≡ left → (r ≡ s) × (d ≡ e)
 owl-plan-unique promised left r s d e er ed es ee = (equal er es, equal ed ee)
 
 -- owl_apply, owl_upgrade
-pub owl-upgraded-unique : (promised : Upgraded) (left : List ℕ) (became size r s b a m n : ℕ) (d e : List ℕ)
+pub owl-upgraded-unique : (promised : Result Upgraded Refusal) (left : List ℕ) (became size r s b a m n : ℕ) (d e : List ℕ)
     → r ≡ upgraded_status promised → b ≡ rtype_or promised became → m ≡ size_or promised size → d ≡ left
     → s ≡ upgraded_status promised → a ≡ rtype_or promised became → n ≡ size_or promised size → e ≡ left
     → (r ≡ s) × (b ≡ a) × (m ≡ n) × (d ≡ e)
 owl-upgraded-unique promised left became size r s b a m n d e er eb em ed es ea en ee = (equal er es, equal eb ea, equal em en, equal ed ee)
 
-pub owl-write-plan-unique : (promised : Written) (left : List ℕ) (length r s n m : ℕ) (a b : List ℕ)
+pub owl-write-plan-unique : (promised : Result ℕ Refusal) (left : List ℕ) (length r s n m : ℕ) (a b : List ℕ)
     → r ≡ written_status promised → a ≡ left → n ≡ length_or promised length
     → s ≡ written_status promised → b ≡ left → m ≡ length_or promised length → (r ≡ s) × (a ≡ b) × (n ≡ m)
 owl-write-plan-unique promised left length r s n m a b er ea en es eb em = (equal er es, equal ea eb, equal en em)

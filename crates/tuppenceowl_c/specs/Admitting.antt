@@ -1,30 +1,24 @@
 -- What hosts are told of a record's size and of a window: a status, and what the lent numbers become.
-use Rattle.std.specs.Prelude.{ℕ}
-use Rattle.limits.specs.Refusal.{number_of}
-use Rattle.tuppenceowl.specs.declared.Sized.{Sized}
-use Rattle.tuppenceowl.specs.declared.Sized.TheVariants.{Bytes, NoRecord, Refused}
-use Rattle.tuppenceowl.specs.declared.Windowed.{Windowed}
-use Rattle.tuppenceowl.specs.declared.Windowed.TheVariants.{Within, Past}
-use Rattle.tuppenceowl_c.specs.Status.{none}
+use Rattle.std.specs.Prelude.{ℕ, Option, Some, None, Result, Ok, Err}
+use Rattle.limits.specs.declared.refusal.Failure.{Failure}
+use Rattle.tuppenceowl_c.specs.Status.{none, failure_status}
 
-abbrev pub sized_status : Sized → ℕ
-sized_status (Bytes n) = 0
-sized_status NoRecord = none
-sized_status (Refused refusal) = number_of refusal
+abbrev pub sized_status : Result ℕ Failure → ℕ
+sized_status (Ok n) = 0
+sized_status (Err failure) = failure_status failure
 
-abbrev pub bytes_or : Sized → ℕ → ℕ
-bytes_or (Bytes n) found = n
-bytes_or NoRecord found = found
-bytes_or (Refused refusal) found = found
+abbrev pub bytes_or : Result ℕ Failure → ℕ → ℕ
+bytes_or (Ok n) found = n
+bytes_or (Err failure) found = found
 
-abbrev pub windowed_status : Windowed → ℕ
-windowed_status (Within start end) = 0
-windowed_status Past = none
+abbrev pub windowed_status : Option (ℕ × ℕ) → ℕ
+windowed_status (Some ends) = 0
+windowed_status None = none
 
-abbrev pub start_or : Windowed → ℕ → ℕ
-start_or (Within start end) found = start
-start_or Past found = found
+abbrev pub start_or : Option (ℕ × ℕ) → ℕ → ℕ
+start_or (Some ends) found = ends.0
+start_or None found = found
 
-abbrev pub end_or : Windowed → ℕ → ℕ
-end_or (Within start end) found = end
-end_or Past found = found
+abbrev pub end_or : Option (ℕ × ℕ) → ℕ → ℕ
+end_or (Some ends) found = ends.1
+end_or None found = found

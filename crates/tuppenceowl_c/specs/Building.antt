@@ -1,12 +1,11 @@
 -- What hosts are told of a call of the field cursor: a status, and what the state's five numbers, the table and the names become.
-use Rattle.std.specs.Prelude.{ℕ, Bool, cond, not, List, [], ◌∷◌, eqb, get_or}
+use Rattle.std.specs.Prelude.{Result, Ok, Err, ℕ, Bool, cond, not, List, [], ◌∷◌, eqb, get_or}
 use Rattle.limits.specs.Refusal.{number_of}
+use Rattle.limits.specs.declared.refusal.Refusal.{Refusal}
 use Rattle.field.specs.declared.Holder.{Holder}
 use Rattle.field.specs.declared.Holder.TheVariants.{Record, Struct}
 use Rattle.cursor_rules.specs.Cursor.{Building, building, Outcome}
 use Rattle.cursor_rules.specs.declared.FieldCursor.{FieldCursor}
-use Rattle.cursor_rules.specs.declared.Placed.{Placed}
-use Rattle.cursor_rules.specs.declared.Placed.TheVariants.{At, Refused}
 
 -- a base is noted where the last number is not 0
 abbrev pub state_in : List ℕ → FieldCursor
@@ -23,13 +22,13 @@ lent_to s t ns = building (state_in s) t ns
 abbrev pub holder_of : Bool → Holder
 holder_of of_struct = cond of_struct Struct Record
 
-abbrev pub placed_status : Placed → ℕ
-placed_status (At c) = 0
-placed_status (Refused refusal) = number_of refusal
+abbrev pub placed_status : Result FieldCursor Refusal → ℕ
+placed_status (Ok c) = 0
+placed_status (Err refusal) = number_of refusal
 
-abbrev pub state_or : Placed → List ℕ → List ℕ
-state_or (At c) found = state_out c
-state_or (Refused refusal) found = found
+abbrev pub state_or : Result FieldCursor Refusal → List ℕ → List ℕ
+state_or (Ok c) found = state_out c
+state_or (Err refusal) found = found
 
 pub record Hosted : Type 0 where
   pub status : ℕ

@@ -1,29 +1,22 @@
 -- What hosts are told of a layout hash and of the boot check: a status, and what the lent numbers become.
-use Rattle.std.specs.Prelude.{ℕ}
-use Rattle.limits.specs.Refusal.{number_of}
-use Rattle.tuppenceowl.specs.declared.hashing.Summed.{Summed}
-use Rattle.tuppenceowl.specs.declared.hashing.Summed.TheVariants.{Hash, NoRecord, Refused}
-use Rattle.tuppenceowl.specs.declared.hashing.Booted.{Booted}
-use Rattle.tuppenceowl.specs.declared.hashing.Booted.TheVariants.{Same, Different, NoRecord as NoneToBoot, Refused as Unbooted}
-use Rattle.tuppenceowl_c.specs.Status.{none, other}
+use Rattle.std.specs.Prelude.{ℕ, Bool, true, false, Result, Ok, Err}
+use Rattle.limits.specs.declared.refusal.Failure.{Failure}
+use Rattle.hash_rules.specs.declared.Walked.{Walked}
+use Rattle.tuppenceowl_c.specs.Status.{other, failure_status}
 
-abbrev pub summed_status : Summed → ℕ
-summed_status (Hash fp visits) = 0
-summed_status NoRecord = none
-summed_status (Refused refusal) = number_of refusal
+abbrev pub summed_status : Result Walked Failure → ℕ
+summed_status (Ok walked) = 0
+summed_status (Err failure) = failure_status failure
 
-abbrev pub hash_or : Summed → ℕ → ℕ
-hash_or (Hash fp visits) found = fp
-hash_or NoRecord found = found
-hash_or (Refused refusal) found = found
+abbrev pub hash_or : Result Walked Failure → ℕ → ℕ
+hash_or (Ok walked) found = walked.fp
+hash_or (Err failure) found = found
 
-abbrev pub visits_or : Summed → ℕ → ℕ
-visits_or (Hash fp visits) found = visits
-visits_or NoRecord found = found
-visits_or (Refused refusal) found = found
+abbrev pub visits_or : Result Walked Failure → ℕ → ℕ
+visits_or (Ok walked) found = walked.visits
+visits_or (Err failure) found = found
 
-abbrev pub booted_status : Booted → ℕ
-booted_status Same = 0
-booted_status Different = other
-booted_status NoneToBoot = none
-booted_status (Unbooted refusal) = number_of refusal
+abbrev pub booted_status : Result Bool Failure → ℕ
+booted_status (Ok true) = 0
+booted_status (Ok false) = other
+booted_status (Err failure) = failure_status failure

@@ -1,25 +1,22 @@
 -- What hosts are told of a selection and of a plan: a status, and the selected record's number, which stays as found where none is selected.
-use Rattle.std.specs.Prelude.{ℕ}
-use Rattle.limits.specs.Refusal.{number_of}
-use Rattle.planner.specs.declared.Planned.{Planned}
-use Rattle.planner.specs.declared.Planned.TheVariants.{Made, NoRecord as NoSuch, Refused as Unmade}
-use Rattle.planner.specs.declared.select.Selected.{Selected}
-use Rattle.planner.specs.declared.select.Selected.TheVariants.{Record, Unplanned, NoRecord, Refused}
-use Rattle.tuppenceowl_c.specs.Status.{none, other}
+use Rattle.std.specs.Prelude.{ℕ, Bool, cond, Option, Some, None, Result, Ok, Err}
+use Rattle.limits.specs.declared.refusal.Failure.{Failure}
+use Rattle.tuppenceowl_c.specs.Status.{other, failure_status}
 
-abbrev pub selected_status : Selected → ℕ
-selected_status (Record k) = 0
-selected_status Unplanned = other
-selected_status NoRecord = none
-selected_status (Refused refusal) = number_of refusal
+-- the schema, where one is wanted
+abbrev pub schema_of : Bool → ℕ → Option ℕ
+schema_of wanted schema = cond wanted (Some schema) None
 
-abbrev pub record_or : Selected → ℕ → ℕ
-record_or (Record k) old = k
-record_or Unplanned old = old
-record_or NoRecord old = old
-record_or (Refused refusal) old = old
+abbrev pub selected_status : Result (Option ℕ) Failure → ℕ
+selected_status (Ok (Some k)) = 0
+selected_status (Ok None) = other
+selected_status (Err failure) = failure_status failure
 
-abbrev pub planned_status : Planned → ℕ
-planned_status Made = 0
-planned_status NoSuch = none
-planned_status (Unmade refusal) = number_of refusal
+abbrev pub record_or : Result (Option ℕ) Failure → ℕ → ℕ
+record_or (Ok (Some k)) old = k
+record_or (Ok None) old = old
+record_or (Err failure) old = old
+
+abbrev pub planned_status : Result (Unit {0}) Failure → ℕ
+planned_status (Ok done) = 0
+planned_status (Err failure) = failure_status failure

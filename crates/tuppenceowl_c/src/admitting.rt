@@ -2,18 +2,29 @@
 ghost use Rattle.std.specs.Prelude.{◌≡◌};
 ghost use Rattle.admission_rules.specs.Admission.{admit_catalogue, admit_of, status_of};
 ghost use Rattle.tuppenceowl.specs.Answers.{sized_of, windowed_of};
+ghost use Rattle.tuppenceowl_c.specs.Status.{failure_status};
 ghost use Rattle.tuppenceowl_c.specs.Admitting.{sized_status, bytes_or, windowed_status, start_or, end_or};
 
 use crate::NONE;
 use limits::refusal;
-use tuppenceowl::{Admitted, Sized, Windowed};
+use limits::refusal::{Failure, Refusal};
 
-pub fn status(answer: Admitted) -> u8
+pub fn status(answer: Result<(), Refusal>) -> u8
     ensures { result ≡ status_of answer }
 {
     match answer {
-        Admitted::Fine => 0,
-        Admitted::Refused(why) => refusal::number(why),
+        Ok(()) => 0,
+        Err(why) => refusal::number(why),
+    }
+}
+
+// Why a call on records has no answer.
+pub fn failure(why: Failure) -> u8
+    ensures { result ≡ failure_status why }
+{
+    match why {
+        Failure::NoRecord => NONE,
+        Failure::Refused(refused) => refusal::number(refused),
     }
 }
 
@@ -37,12 +48,11 @@ pub extern "C" fn owl_record_size(cat: &[u8], layout: &[u8], k: usize, size: &mu
     ensures size { size.new ≡ bytes_or (sized_of cat.now layout.now k) size.old }
 {
     match tuppenceowl::record_size(cat, layout, k) {
-        Sized::Bytes(n) => {
+        Ok(n) => {
             *size = n;
             0
         }
-        Sized::NoRecord => NONE,
-        Sized::Refused(why) => refusal::number(why),
+        Err(why) => failure(why),
     }
 }
 
@@ -59,11 +69,11 @@ pub extern "C" fn owl_window(
     ensures end { end.new ≡ end_or (windowed_of bytes.now offset size) end.old }
 {
     match tuppenceowl::window(bytes, offset, size) {
-        Windowed::Within(from, to) => {
+        Some((from, to)) => {
             *start = from;
             *end = to;
             0
         }
-        Windowed::Past => NONE,
+        None => NONE,
     }
 }

@@ -3,21 +3,18 @@ ghost use Rattle.std.specs.Prelude.{◌≡◌};
 ghost use Rattle.tuppenceowl.specs.Comparing.{judged_of, judged_rtype};
 ghost use Rattle.tuppenceowl_c.specs.Comparing.{judged_status};
 
-use crate::{NONE, OTHER};
+use crate::{OTHER, admitting};
 use compare::answer::Verdict;
+use limits::refusal::Failure;
 use tuppenceowl::comparing;
-use tuppenceowl::comparing::Judged;
 
-fn status(judged: Judged) -> u8
+fn status(judged: Result<Verdict, Failure>) -> u8
     ensures { result ≡ judged_status judged }
 {
     match judged {
-        Judged::Is(verdict) => match verdict {
-            Verdict::Compiled => 0,
-            Verdict::Dynamic => OTHER,
-        },
-        Judged::NoRecord => NONE,
-        Judged::Refused(why) => limits::refusal::number(why),
+        Ok(Verdict::Compiled) => 0,
+        Ok(Verdict::Dynamic) => OTHER,
+        Err(why) => admitting::failure(why),
     }
 }
 

@@ -7,19 +7,20 @@ ghost use Rattle.tuppenceowl_c.specs.Finding.{found_status, field_or};
 use crate::NONE;
 use builders::bytes;
 use builders::bytes::Row;
-use tuppenceowl::Found;
+use field::FieldDef;
+use limits::refusal::Refusal;
 
-fn tell(answer: Found, field: &mut Row) -> u8
+fn tell(answer: Result<Option<FieldDef>, Refusal>, field: &mut Row) -> u8
     ensures status { result ≡ found_status answer }
     ensures field { field.new ≡ field_or answer field.old }
 {
     match answer {
-        Found::Field(f) => {
+        Ok(Some(f)) => {
             *field = bytes::row(f);
             0
         }
-        Found::NoField => NONE,
-        Found::Refused(why) => limits::refusal::number(why),
+        Ok(None) => NONE,
+        Err(why) => limits::refusal::number(why),
     }
 }
 

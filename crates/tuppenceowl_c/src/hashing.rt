@@ -5,10 +5,10 @@ ghost use Rattle.crc64.specs.Avro.{fingerprint};
 ghost use Rattle.tuppenceowl.specs.Answers.{summed_of, booted_of};
 ghost use Rattle.tuppenceowl_c.specs.Hashing.{summed_status, hash_or, visits_or, booted_status};
 
-use crate::{NONE, OTHER};
-use limits::refusal;
+use crate::{OTHER, admitting};
+use limits::refusal::Failure;
 use tuppenceowl::hashing;
-use tuppenceowl::hashing::{Booted, Summed};
+use tuppenceowl::hashing::Walked;
 
 #[unsafe(no_mangle)]
 pub extern "C" fn owl_sum(bytes: &[u8]) -> u64
@@ -17,19 +17,18 @@ pub extern "C" fn owl_sum(bytes: &[u8]) -> u64
     hashing::sum(bytes)
 }
 
-fn tell(answer: Summed, hash: &mut u64, visits: &mut usize) -> u8
+fn tell(answer: Result<Walked, Failure>, hash: &mut u64, visits: &mut usize) -> u8
     ensures status { result ≡ summed_status answer }
     ensures hash { hash.new ≡ hash_or answer hash.old }
     ensures visits { visits.new ≡ visits_or answer visits.old }
 {
     match answer {
-        Summed::Hash(fp, used) => {
-            *hash = fp;
-            *visits = used;
+        Ok(walked) => {
+            *hash = walked.fp;
+            *visits = walked.visits;
             0
         }
-        Summed::NoRecord => NONE,
-        Summed::Refused(why) => refusal::number(why),
+        Err(why) => admitting::failure(why),
     }
 }
 
@@ -74,9 +73,8 @@ pub extern "C" fn owl_boot_check(cat: &[u8], layout: &[u8], k: usize) -> u8
     ensures { result ≡ booted_status (booted_of cat.now layout.now k) }
 {
     match hashing::boot_check(cat, layout, k) {
-        Booted::Same => 0,
-        Booted::Different => OTHER,
-        Booted::NoRecord => NONE,
-        Booted::Refused(why) => refusal::number(why),
+        Ok(true) => 0,
+        Ok(false) => OTHER,
+        Err(why) => admitting::failure(why),
     }
 }

@@ -2,35 +2,32 @@
 ghost use Rattle.std.specs.Prelude.{◌≡◌, length};
 ghost use Rattle.planner.specs.Planner.{planned_of, after_plan};
 ghost use Rattle.planner.specs.Select.{selected_of};
-ghost use Rattle.tuppenceowl_c.specs.Planning.{planned_status, selected_status, record_or};
+ghost use Rattle.tuppenceowl_c.specs.Planning.{planned_status, selected_status, record_or, schema_of};
 
-use crate::{NONE, OTHER};
-use limits::refusal;
+use crate::{OTHER, admitting};
+use limits::refusal::Failure;
 use tuppenceowl::planning;
-use tuppenceowl::planning::{Planned, Selected};
 
-fn tell_selected(answer: Selected, number: &mut usize) -> u8
+fn tell_selected(answer: Result<Option<usize>, Failure>, number: &mut usize) -> u8
     ensures status { result ≡ selected_status answer }
     ensures number { number.new ≡ record_or answer number.old }
 {
     match answer {
-        Selected::Record(k) => {
+        Ok(Some(k)) => {
             *number = k;
             0
         }
-        Selected::Unplanned => OTHER,
-        Selected::NoRecord => NONE,
-        Selected::Refused(why) => refusal::number(why),
+        Ok(None) => OTHER,
+        Err(why) => admitting::failure(why),
     }
 }
 
-fn planned_status(answer: Planned) -> u8
+fn planned_status(answer: Result<(), Failure>) -> u8
     ensures { result ≡ planned_status answer }
 {
     match answer {
-        Planned::Made => 0,
-        Planned::NoRecord => NONE,
-        Planned::Refused(why) => refusal::number(why),
+        Ok(()) => 0,
+        Err(why) => admitting::failure(why),
     }
 }
 
@@ -44,13 +41,11 @@ pub extern "C" fn owl_select(
     schema: u16,
     number: &mut usize,
 ) -> u8
-    ensures status { result ≡ selected_status (selected_of cat.now source.now k target.now wanted schema) }
-    ensures number { number.new ≡ record_or (selected_of cat.now source.now k target.now wanted schema) number.old }
+    ensures status { result ≡ selected_status (selected_of cat.now source.now k target.now (schema_of wanted schema)) }
+    ensures number { number.new ≡ record_or (selected_of cat.now source.now k target.now (schema_of wanted schema)) number.old }
 {
-    tell_selected(
-        planning::select(cat, source, k, target, wanted, schema),
-        number,
-    )
+    let schema = if wanted { Some(schema) } else { None };
+    tell_selected(planning::select(cat, source, k, target, schema), number)
 }
 
 #[unsafe(no_mangle)]

@@ -3,8 +3,9 @@ ghost use Rattle.std.specs.Prelude.{◌≡◌};
 ghost use Rattle.cursor_rules.specs.Cursor.{fresh};
 ghost use Rattle.tuppenceowl_c.specs.Building.{state_in, state_out, holder_of, placed_status, state_or};
 
-use cursor_rules::{FieldCursor, Placed};
+use cursor_rules::FieldCursor;
 use field::Holder;
+use limits::refusal::Refusal;
 
 pub type State = [usize; 5];
 
@@ -32,16 +33,16 @@ fn state_out(c: FieldCursor) -> State
     ]
 }
 
-pub fn tell(answer: Placed, state: &mut State) -> u8
+pub fn tell(answer: Result<FieldCursor, Refusal>, state: &mut State) -> u8
     ensures status { result ≡ placed_status answer }
     ensures state { state.new ≡ state_or answer state.old }
 {
     match answer {
-        Placed::At(c) => {
+        Ok(c) => {
             *state = state_out(c);
             0
         }
-        Placed::Refused(why) => limits::refusal::number(why),
+        Err(why) => limits::refusal::number(why),
     }
 }
 

@@ -7,8 +7,6 @@ ghost use Rattle.tuppenceowl_c.specs.Texting.{written_status, length_or, ReadsAs
 
 use crate::admitting;
 use limits::refusal;
-use plan_read::reader::ReadPlan;
-use plan_text::writer::Written;
 use tuppenceowl::texting;
 
 #[unsafe(no_mangle)]
@@ -26,11 +24,11 @@ pub extern "C" fn owl_write_plan(plan: &[u8], text: &mut [u8], length: &mut usiz
     ensures length { length.new ≡ length_or (written_of plan.now text.old) length.old }
 {
     match texting::write_plan(plan, text) {
-        Written::Length(n) => {
+        Ok(n) => {
             *length = n;
             0
         }
-        Written::Refused(why) => refusal::number(why),
+        Err(why) => refusal::number(why),
     }
 }
 
@@ -39,7 +37,7 @@ pub extern "C" fn owl_read_plan(text: &[u8], plan: &mut [u8]) -> u8
     ensures { ReadsAs text.now plan.old result plan.new }
 {
     match texting::read_plan(text, plan) {
-        ReadPlan::Read => 0,
-        ReadPlan::Refused(why) => refusal::number(why),
+        Ok(()) => 0,
+        Err(why) => refusal::number(why),
     }
 }

@@ -3,21 +3,22 @@ ghost use Rattle.std.specs.Prelude.{◌≡◌};
 ghost use Rattle.dispatch.specs.Dispatch.{applied_of, after_apply, upgraded_of, after_upgrade};
 ghost use Rattle.tuppenceowl_c.specs.Upgrading.{upgraded_status, rtype_or, size_or};
 
-use dispatch::Upgraded;
+use limits::refusal::Refusal;
 use tuppenceowl::upgrading;
+use tuppenceowl::upgrading::Upgraded;
 
-fn tell(answer: Upgraded, became: &mut u16, size: &mut usize) -> u8
+fn tell(answer: Result<Upgraded, Refusal>, became: &mut u16, size: &mut usize) -> u8
     ensures status { result ≡ upgraded_status answer }
     ensures became { became.new ≡ rtype_or answer became.old }
     ensures size { size.new ≡ size_or answer size.old }
 {
     match answer {
-        Upgraded::Done(rtype, n) => {
-            *became = rtype;
-            *size = n;
+        Ok(upgraded) => {
+            *became = upgraded.rtype;
+            *size = upgraded.size;
             0
         }
-        Upgraded::Refused(why) => limits::refusal::number(why),
+        Err(why) => limits::refusal::number(why),
     }
 }
 

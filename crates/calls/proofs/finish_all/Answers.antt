@@ -1,11 +1,13 @@
-use Rattle.calls_rules.proofs.Ends.{noted-so, over}
+use Rattle.builders.specs.Builder.{building_of}
+use Rattle.calls_rules.proofs.Ends.{over}
 use Rattle.calls_rules.specs.Calls.{noted_all}
-use Rattle.cursor_rules.specs.Cursor.{align_up, building, move_to}
-use mathlib.Core.Path.{ap}
+use Rattle.cursor_rules.specs.Cursor.{align_up}
+use mathlib.Core.Path.{◌∙◌, ap}
 use Rattle.calls.proofs.finish_all.Goals as goal
 
-pub returns-then-c-gt-MAX_BYTES : goal.returns-then-c-gt-MAX_BYTES
-returns-then-c-gt-MAX_BYTES c = ap noted_all (over c.args.cat.now (align_up c.args.c.cursor 8) (building c.args.c c.args.table.now c.args.names.now) c.if-c-gt-MAX_BYTES.true)
+pub returns-then-b-gt-MAX_BYTES-clause-made : goal.returns-then-b-gt-MAX_BYTES-clause-made
+returns-then-b-gt-MAX_BYTES-clause-made c = let b = building_of c.args.b.now in
+    ap noted_all (over c.args.cat.now (align_up b.state.cursor 8) b c.if-b-gt-MAX_BYTES.true)
 
-pub returns : goal.returns
-returns c = noted-so c.move_to.result c.note.result _ _ (move_to c.args.cat.now (align_up c.args.c.cursor 8) (building c.args.c c.args.table.now c.args.names.now)) c.note.ensures (rw c.align_up.ensures.0 at c.move_to.ensures)
+pub returns-clause-made : goal.returns-clause-made
+returns-clause-made c = c.end_at.ensures.made ∙ rw c.align_up.ensures.0

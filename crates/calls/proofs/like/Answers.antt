@@ -6,6 +6,6 @@ use mir.ValLaws.{to_z-of_z}
 use native.Mathlib.Omega.{arith}
 use Rattle.calls.proofs.like.Goals as goal
 
-pub returns : goal.returns
-returns c = let small : SFits w8 c.args.def.scale = record { sfits = omega arith } in
-    c.place.ensures ∙ rw (c.class_of-takes.ensures, c.width.ensures.0, to_z-of_z w8 c.args.def.scale small)
+pub returns-clause-made : goal.returns-clause-made
+returns-clause-made c = let small : SFits w8 c.args.def.scale = record { sfits = omega arith } in
+    c.place.ensures.made ∙ rw (c.class_of-takes.ensures, c.width.ensures.0, to_z-of_z w8 c.args.def.scale small)

@@ -1,4 +1,4 @@
 use Rattle.calls.proofs.noted.Goals as goal
 
 pub returns : goal.returns
-returns c = rw c.base_of-base.ensures
+returns c = rw c.base_of.ensures

@@ -3,4 +3,4 @@ use Rattle.calls.proofs.struct_bytes.Goals as goal
 
 pub returns : goal.returns
 unfolding struct_at
-returns c = (c.u32_at.ensures.0, c.u32_at.ensures.1)
+returns c = rw (← c.at.ensures.0) (c.u32_at.ensures.0, c.u32_at.ensures.1)

@@ -1,5 +1,5 @@
 -- The ids left decide, together with what was found so far.
-use Prim.Native.Nat.{◌+◌}
+use Prim.Native.Nat.{◌-◌}
 use Rattle.catalogue.specs.Catalogue.{kinds, kind_ok}
 use Rattle.lent.specs.Bytes.{byte_at}
 use Rattle.lent.specs.Scan.{gather, every}
@@ -7,8 +7,5 @@ use mathlib.Core.Bool.{◌&&◌}
 use mathlib.Core.Path.{◌≡◌}
 use Rattle.catalogue.proofs.kinds_ok.Given as goal
 
-abbrev pub invariant-loop-left : goal.invariant-loop-left
-invariant-loop-left l = (l.at + l.left ≡ 256) × ((l.good && every kind_ok (gather (byte_at l.cat) 1 l.at l.left)) ≡ every kind_ok (kinds l.cat))
-
-abbrev pub decreases-loop-left : goal.decreases-loop-left
-decreases-loop-left l = l.left
+abbrev pub invariant-loop-kind : goal.invariant-loop-kind
+invariant-loop-kind l = (l.good && every kind_ok (gather (byte_at l.cat) 1 l.kind-index (256 - l.kind-index))) ≡ every kind_ok (kinds l.cat)

@@ -6,6 +6,3 @@ use Rattle.catalogue.proofs.least_id.Given as goal
 
 abbrev pub invariant-loop-id : goal.invariant-loop-id
 invariant-loop-id l = (l.best ≤ 255) × (min l.best (first_of l.cat l.class l.id (256 - l.id)) ≡ id_of l.cat l.class)
-
-abbrev pub decreases-loop-id : goal.decreases-loop-id
-decreases-loop-id l = 256 - l.id

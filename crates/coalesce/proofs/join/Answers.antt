@@ -1,14 +1,15 @@
+-- A step that is no copy joins none.
+use Rattle.std.proofs.Common.{◌∙◌}
 use Rattle.coalesce.specs.Joins.{joins}
 use Rattle.coalesce.proofs.join.Goals as goal
 
-pub returns-in-Int : goal.returns-in-Int
+pub returns-in_err-run_of : goal.returns-in_err-run_of
 unfolding joins
-returns-in-Int c = rw c.in-Int.is
+returns-in_err-run_of c = c.from_residual.ensures ∙ rw c.in_err-run_of.ensures.integer
 
-pub returns-in-Int-next : goal.returns-in-Int-next
+pub returns-in_err-run_of-2 : goal.returns-in_err-run_of-2
 unfolding joins
-returns-in-Int-next c = rw (c.in-Copy.is, c.in-Int-next.is)
+returns-in_err-run_of-2 c = c.from_residual-in_err-run_of-2.ensures ∙ rw (c.in_ok-run_of.ensures.copied, c.in_err-run_of-2.ensures.integer)
 
-pub returns-in-Copy-next : goal.returns-in-Copy-next
-unfolding joins
-returns-in-Copy-next c = rw (c.in-Copy.is, c.in-Copy-next.is) c.join_runs.ensures
+pub returns : goal.returns
+returns c = rw (c.in_ok-run_of.ensures.copied, c.in_ok-run_of-2.ensures.copied) c.join_runs.ensures

@@ -8,4 +8,4 @@ returns c = let bs : List ℕ = c.args.bytes.now in
     c.finish.ensures
     ∙ c.with_bytes.ensures
     ∙ ap (λ (fp : ℕ). bytes_step fp bs) c.new.ensures
-    ∙ sym (agree bs (λ i. omega (arith, c.shared_slice_known-1.given i)))
+    ∙ sym (agree bs (λ i. omega (arith, c.type_inv.bytes i)))

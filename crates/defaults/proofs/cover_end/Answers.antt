@@ -1,29 +1,21 @@
-use Prim.Native.Nat.{◌+◌}
+use Rattle.std.proofs.Common.{◌+◌, ◌&&◌, arith}
+use Rattle.field.specs.Field.{counts}
+use Rattle.lent.proofs.Turns.{first-stops, first-goes, first-ends}
 use Rattle.defaults.specs.Defaults.{holds}
-use Rattle.field.specs.Field.{field_at, counts}
-use Rattle.lent.proofs.Scan.{first-here, first-later, first-nowhere}
-use mathlib.Core.Bool.{◌&&◌}
-use mathlib.Core.Path.{refl}
-use native.Mathlib.Omega.{arith}
 use Rattle.defaults.proofs.cover_end.Goals as goal
 
-pub loop-left-init : goal.loop-left-init
-loop-left-init c = (omega arith, refl)
-
 pub returns-then-counts-start : goal.returns-then-counts-start
-returns-then-counts-start c = let a = c.args in let l = c.loop-left in (
-  rw (c.wide16-start.ensures.0, c.wide16.ensures.0, c.field_in-f.ensures) (first-here (field_at a.table.now) 16 l.at l.left (λ f. counts a.cat.now f && holds f a.i) (λ f. f.offset + f.size) a.i _ l.invariant.1 (omega arith)
-      (rw (← c.field_in-f.ensures, ← c.counts.ensures, ← c.wide16-start.ensures.0, ← c.wide16.ensures.0) c.if-counts-start.true)),
-  omega arith,
+returns-then-counts-start c = let a = c.args in (
+  rw c.end_of-end.ensures.0 (first-stops (λ f. counts a.cat.now f && holds f a.i) (λ f. f.offset + f.size) a.i c.loop-f.invariant c.in-Some.ensures.steps
+      (rw (← c.counts.ensures, ← c.end_of-end.ensures.0, ← c.from-start.ensures) c.if-counts-start.true)),
+  c.end_of-end.ensures.1,
 )
 
-pub loop-left-preserved : goal.loop-left-preserved
-loop-left-preserved c = let a = c.args in let l = c.loop-left in (
-  omega arith,
-  first-later (field_at a.table.now) 16 l.at l.left (λ f. counts a.cat.now f && holds f a.i) (λ f. f.offset + f.size) a.i _ l.invariant.1 (omega arith)
-      (rw (← c.field_in-f.ensures, ← c.counts.ensures, ← c.wide16-start.ensures.0, ← c.wide16.ensures.0) c.if-counts-start.false),
-)
+pub loop-f-preserved : goal.loop-f-preserved
+loop-f-preserved c = let a = c.args in
+    first-goes (λ f. counts a.cat.now f && holds f a.i) (λ f. f.offset + f.size) a.i c.loop-f.invariant c.in-Some.ensures.steps
+    (rw (← c.counts.ensures, ← c.end_of-end.ensures.0, ← c.from-start.ensures) c.if-counts-start.false)
 
 pub returns : goal.returns
-returns c = let a = c.args in let l = c.loop-left in
-    (first-nowhere (field_at a.table.now) 16 l.at l.left (λ f. counts a.cat.now f && holds f a.i) (λ f. f.offset + f.size) a.i _ l.invariant.1 (omega arith), omega arith)
+returns c = let a = c.args in
+    (first-ends (λ f. counts a.cat.now f && holds f a.i) (λ f. f.offset + f.size) a.i c.loop-f.invariant c.in-None.ensures.steps.0, omega arith)

@@ -10,14 +10,14 @@ pub returns-then-body-size : goal.returns-then-body-size
 unfolding defaults_ok
 returns-then-body-size c = rw (ne_eqb (c.args.header + length c.args.body.now) c.args.size (λ e. c.if-body-size.true (omega arith)))
 
-pub returns-then-not-gaps_zero : goal.returns-then-not-gaps_zero
+pub returns-else-gaps_zero : goal.returns-else-gaps_zero
 unfolding defaults_ok
-returns-then-not-gaps_zero c = let e : c.args.header + length c.args.body.now ≡ c.args.size = omega arith in
-    let gaps = c.if-not-gaps_zero.true in
+returns-else-gaps_zero c = let e : c.args.header + length c.args.body.now ≡ c.args.size = omega arith in
+    let gaps = c.if-gaps_zero.false in
     rw (eq-eqb (c.args.header + length c.args.body.now) c.args.size e, ← c.gaps_zero.ensures, gaps)
 
-pub returns : goal.returns
+pub returns-then-gaps_zero : goal.returns-then-gaps_zero
 unfolding defaults_ok
-returns c = let e : c.args.header + length c.args.body.now ≡ c.args.size = omega arith in
-    let gaps = c.if-not-gaps_zero.false in
+returns-then-gaps_zero c = let e : c.args.header + length c.args.body.now ≡ c.args.size = omega arith in
+    let gaps = c.if-gaps_zero.true in
     rw (eq-eqb (c.args.header + length c.args.body.now) c.args.size e, ← c.gaps_zero.ensures, gaps) c.marks_hold.ensures

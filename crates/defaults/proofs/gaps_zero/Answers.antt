@@ -12,20 +12,20 @@ use native.Mathlib.Nat.{add-zero, sub-zero}
 use native.Mathlib.Omega.{arith}
 use Rattle.defaults.proofs.gaps_zero.Goals as goal
 
-pub next-init : goal.next-init
-next-init c = simp (add-zero, sub-zero)
+pub loop-i-init : goal.loop-i-init
+loop-i-init c = simp (add-zero, sub-zero)
 
-pub next-preserved-then-eight_in-eq0 : goal.next-preserved-then-eight_in-eq0
-next-preserved-then-eight_in-eq0 c = zeros-pass c.args.cat.now (fields_of c.args.table.now) c.args.header c.args.body.now c.next.i _ c.next.invariant 8 (sym c.eight_in.ensures.0 ∙ c.if-eight_in-eq0.true)
+pub loop-i-preserved-then-eight_in-eq0 : goal.loop-i-preserved-then-eight_in-eq0
+loop-i-preserved-then-eight_in-eq0 c = zeros-pass c.args.cat.now (fields_of c.args.table.now) c.args.header c.args.body.now c.loop-i.i _ c.loop-i.invariant 8 (sym c.eight_in.ensures.0 ∙ c.if-eight_in-eq0.true)
 
-pub next-preserved-then-body-i-eq0 : goal.next-preserved-then-body-i-eq0
-next-preserved-then-body-i-eq0 c = zeros-pass c.args.cat.now (fields_of c.args.table.now) c.args.header c.args.body.now c.next.i _ c.next.invariant 1 (omega (arith, c.if-body-i-eq0.true))
+pub loop-i-preserved-then-body-i-eq0 : goal.loop-i-preserved-then-body-i-eq0
+loop-i-preserved-then-body-i-eq0 c = zeros-pass c.args.cat.now (fields_of c.args.table.now) c.args.header c.args.body.now c.loop-i.i _ c.loop-i.invariant 1 (omega (arith, c.if-body-i-eq0.true))
 
 pub returns-then-end-header : goal.returns-then-end-header
-returns-then-end-header c = gap-stops c.args.cat.now (fields_of c.args.table.now) c.args.header c.args.body.now c.next.i _ c.next.invariant (omega arith) c.if-body-i-eq0.false (omega (arith, c.cover_end-end.ensures.0, c.if-end-header.true))
+returns-then-end-header c = gap-stops c.args.cat.now (fields_of c.args.table.now) c.args.header c.args.body.now c.loop-i.i _ c.loop-i.invariant (omega arith) c.if-body-i-eq0.false (omega (arith, c.cover_end-end.ensures.0, c.if-end-header.true))
 
-pub next-preserved : goal.next-preserved
-next-preserved c = field-passes c.args.cat.now (fields_of c.args.table.now) c.args.header c.args.body.now c.next.i _ c.next.invariant c.cover_end-end.result c.cover_end-end.ensures.0 (omega arith)
+pub loop-i-preserved : goal.loop-i-preserved
+loop-i-preserved c = field-passes c.args.cat.now (fields_of c.args.table.now) c.args.header c.args.body.now c.loop-i.i _ c.loop-i.invariant c.cover_end-end.result c.cover_end-end.ensures.0 (omega arith)
 
 pub returns : goal.returns
-returns c = ends (λ place. place) 1 (c.args.header + c.next.i) (length c.args.body.now - c.next.i) (λ j. covered c.args.cat.now (fields_of c.args.table.now) j || eqb (byte_at c.args.body.now (j - c.args.header)) 0) _ c.next.invariant (omega arith)
+returns c = ends (λ place. place) 1 (c.args.header + c.loop-i.i) (length c.args.body.now - c.loop-i.i) (λ j. covered c.args.cat.now (fields_of c.args.table.now) j || eqb (byte_at c.args.body.now (j - c.args.header)) 0) _ c.loop-i.invariant (omega arith)

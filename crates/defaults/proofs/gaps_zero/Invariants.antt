@@ -10,8 +10,8 @@ use mathlib.Core.Bool.{◌||◌}
 use mathlib.Core.Path.{◌≡◌}
 use Rattle.defaults.proofs.gaps_zero.Given as goal
 
-abbrev pub invariant-next : goal.invariant-next
-invariant-next l = every (λ j. covered l.cat (fields_of l.table) j || eqb (byte_at l.body (j - l.header)) 0) (places 1 (l.header + l.i) (length l.body - l.i)) ≡ gaps_zero l.cat (fields_of l.table) l.header l.body
+abbrev pub invariant-loop-i : goal.invariant-loop-i
+invariant-loop-i l = every (λ j. covered l.cat (fields_of l.table) j || eqb (byte_at l.body (j - l.header)) 0) (places 1 (l.header + l.i) (length l.body - l.i)) ≡ gaps_zero l.cat (fields_of l.table) l.header l.body
 
-abbrev pub decreases-next : goal.decreases-next
-decreases-next l = length l.body - l.i
+abbrev pub decreases-loop-i : goal.decreases-loop-i
+decreases-loop-i l = length l.body - l.i

@@ -5,6 +5,6 @@ pub returns-then-header-size : goal.returns-then-header-size
 unfolding header_ok
 returns-then-header-size c = rw c.if-header-size.true c.all_start_after.ensures
 
-pub returns : goal.returns
+pub returns-else-header-size : goal.returns-else-header-size
 unfolding header_ok
-returns c = rw c.if-header-size.false
+returns-else-header-size c = rw c.if-header-size.false

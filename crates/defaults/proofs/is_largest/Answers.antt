@@ -1,29 +1,20 @@
-use Prim.Native.Nat.{◌+◌, ℕ}
-use Rattle.defaults.proofs.Gaps.{last-is}
-use Rattle.defaults.specs.Defaults.{largest_byte}
+use Rattle.std.proofs.Common.{ℕ, ◌+◌, ◌-◌, ◌≡◌, add-one, eq-eqb, ne_eqb, nat_eq, arith}
 use Rattle.lent.proofs.Scan.{ends, goes, stops}
 use Rattle.lent.specs.Bytes.{byte_at}
-use borrow.Author.Tests.{eq-eqb, ne_eqb}
-use lib.Dec.{eqb}
-use mathlib.Core.Path.{refl}
-use native.Mathlib.Omega.{arith}
+use Rattle.defaults.specs.Defaults.{largest_byte}
 use Rattle.defaults.proofs.is_largest.Goals as goal
 
-pub loop-left-init : goal.loop-left-init
-loop-left-init c = (omega arith, refl)
+pub returns-then-byte_at-largest_byte : goal.returns-then-byte_at-largest_byte
+returns-then-byte_at-largest_byte c = let a = c.args in let l = c.loop-i in
+    stops (λ (p : ℕ). p) 1 l.i (a.n - l.i) (λ k. nat_eq (byte_at a.body.now (a.from + k)) (largest_byte a.signed a.n k)) _ l.invariant (omega arith)
+    (rw (← add-one l.i, ← c.byte_at.ensures, ← c.largest_byte.ensures) (ne_eqb _ _ c.if-byte_at-largest_byte.true))
 
-pub returns-then-byte_at-most : goal.returns-then-byte_at-most
-returns-then-byte_at-most c = let a = c.args in let l = c.loop-left in
-    stops (λ (p : ℕ). p) 1 l.i l.left (λ k. eqb (byte_at a.body.now (a.from + k)) (largest_byte a.signed a.n k)) _ l.invariant.1 (omega arith)
-    (rw (← last-is l.i l.left a.n l.invariant.0, ← c.byte_at.ensures, ← c.largest_byte-most.ensures) (ne_eqb _ _ c.if-byte_at-most.true))
-
-pub loop-left-preserved : goal.loop-left-preserved
-loop-left-preserved c = let a = c.args in let l = c.loop-left in (
-  omega arith,
-  goes (λ (p : ℕ). p) 1 l.i l.left (λ k. eqb (byte_at a.body.now (a.from + k)) (largest_byte a.signed a.n k)) _ l.invariant.1 (omega arith)
-      (rw (← last-is l.i l.left a.n l.invariant.0, ← c.byte_at.ensures, ← c.largest_byte-most.ensures) (eq-eqb _ _ c.if-byte_at-most.false)),
-)
+pub loop-i-preserved : goal.loop-i-preserved
+loop-i-preserved c = let a = c.args in let l = c.loop-i in
+    let left : a.n - (l.i + 1) ≡ (a.n - l.i) - 1 = omega arith in
+    rw left (goes (λ (p : ℕ). p) 1 l.i (a.n - l.i) (λ k. nat_eq (byte_at a.body.now (a.from + k)) (largest_byte a.signed a.n k)) _ l.invariant (omega arith)
+    (rw (← add-one l.i, ← c.byte_at.ensures, ← c.largest_byte.ensures) (eq-eqb _ _ c.if-byte_at-largest_byte.false)))
 
 pub returns : goal.returns
-returns c = let a = c.args in let l = c.loop-left in
-    ends (λ (p : ℕ). p) 1 l.i l.left (λ k. eqb (byte_at a.body.now (a.from + k)) (largest_byte a.signed a.n k)) _ l.invariant.1 (omega arith)
+returns c = let a = c.args in let l = c.loop-i in
+    ends (λ (p : ℕ). p) 1 l.i (a.n - l.i) (λ k. nat_eq (byte_at a.body.now (a.from + k)) (largest_byte a.signed a.n k)) _ l.invariant (omega arith)

@@ -1,7 +1,6 @@
 -- Both structs are there: few fields each.
 use Rattle.equal_rules.proofs.Equal.{few-named}
 use mathlib.Core.Path.{◌∙◌, sym}
-use native.Mathlib.Omega.{arith}
 use Rattle.equal.proofs.named_eq.Goals as goal
 
 pub returns-then-not-has_struct : goal.returns-then-not-has_struct
@@ -12,8 +11,6 @@ returns-then-not-has_struct-2 c = rw (sym c.has_struct.ensures ∙ c.if-not-has_
 
 pub struct_eq-requires : goal.struct_eq-requires
 struct_eq-requires c = (
-  omega (arith, c.struct_head.ensures.1),
-  omega (arith, c.struct_head-2.ensures.1),
   rw c.struct_head.ensures.0 (few-named c.args.s.now c.args.f c.requires.0 (sym c.has_struct.ensures ∙ c.if-not-has_struct.false)),
   rw c.struct_head-2.ensures.0 (few-named c.args.c.now c.args.g c.requires.1 (sym c.has_struct-2.ensures ∙ c.if-not-has_struct-2.false)),
 )

@@ -15,15 +15,15 @@ pub returns-then-n-wants : goal.returns-then-n-wants
 returns-then-n-wants c = counts-differ (struct_at c.args.s.now c.args.h) (struct_at c.args.c.now c.args.g) _ _ c.table_at-haves.ensures c.table_at-wants.ensures (sym c.struct_size.ensures ∙ c.if-struct_size.false ∙ c.struct_size-2.ensures) c.if-n-wants.true
 
 pub by_offset-requires : goal.by_offset-requires
-by_offset-requires c = let z : length c.table_at-haves.result.now ≤ 16 * max_struct_fields = rw c.table_at-haves.ensures c.requires.2 in
+by_offset-requires c = let z : length c.table_at-haves.result.now ≤ 16 * max_struct_fields = rw c.table_at-haves.ensures c.requires.0 in
     (omega arith, omega arith)
 
 pub by_offset-requires-2 : goal.by_offset-requires-2
-by_offset-requires-2 c = let z : length c.table_at-haves.result.now ≤ 16 * max_struct_fields = rw c.table_at-haves.ensures c.requires.2 in
+by_offset-requires-2 c = let z : length c.table_at-haves.result.now ≤ 16 * max_struct_fields = rw c.table_at-haves.ensures c.requires.0 in
     (omega arith, omega arith)
 
 pub loop-k-init : goal.loop-k-init
-loop-k-init c = let z : length c.table_at-haves.result.now ≤ 16 * max_struct_fields = rw c.table_at-haves.ensures c.requires.2 in (
+loop-k-init c = let z : length c.table_at-haves.result.now ≤ 16 * max_struct_fields = rw c.table_at-haves.ensures c.requires.0 in (
   omega arith,
   omega (arith, c.by_offset.ensures.1),
   omega (arith, c.by_offset-2.ensures.1),

@@ -1,12 +1,11 @@
 -- A field enters a struct's table with the same levels left, a table its fields with one less: twice the levels, and one for a field, fall.
 -- Of a table, the fields that are left decide.
-use Prim.Native.Nat.{◌+◌, ◌-◌, ◌*◌, ◌≤◌}
+use Prim.Native.Nat.{◌+◌, ◌-◌, ◌*◌}
 use Rattle.crc64.specs.Sum.{bytes_step}
 use Rattle.field.specs.Field.{field_at, fields_of}
 use Rattle.hash_rules.specs.Parts.{told}
 use Rattle.hash_rules.specs.Walk.{walk_fields, walk_table}
-use Rattle.limits.specs.Limits.{max_fields}
-use lib.ListN.{length, take, drop}
+use lib.ListN.{drop}
 use mathlib.Core.List.{map}
 use mathlib.Core.Path.{◌≡◌}
 use Rattle.hash.proofs.+hash_field_hash_table.Given as goal
@@ -17,11 +16,7 @@ decreases-hash_field l = 2 * l.levels + 1
 abbrev pub decreases-hash_table : goal.decreases-hash_table
 decreases-hash_table l = 2 * l.levels
 
-abbrev pub invariant-hash_table-loop-k : goal.invariant-hash_table-loop-k
-invariant-hash_table-loop-k l =
-    (l.k ≤ l.n) × (l.n ≤ length l.order) × (l.n ≤ max_fields)
-    × (told (walk_fields bytes_step l.cat l.l l.budget (walk_table bytes_step l.cat l.l l.budget (l.levels - 1)) (map (field_at l.table) (drop l.k (take l.n l.order))) l.fp l.visits)
-    ≡ told (walk_table bytes_step l.cat l.l l.budget l.levels (fields_of l.table) l.start l.used))
-
-abbrev pub decreases-hash_table-loop-k : goal.decreases-hash_table-loop-k
-decreases-hash_table-loop-k l = l.n - l.k
+abbrev pub invariant-hash_table-loop-place : goal.invariant-hash_table-loop-place
+invariant-hash_table-loop-place l =
+    told (walk_fields bytes_step l.walk.cat.now l.walk.layout.now l.walk.budget (walk_table bytes_step l.walk.cat.now l.walk.layout.now l.walk.budget (l.levels - 1)) (map (field_at l.table) (drop l.place-index l.place-items)) l.walked.fp l.walked.visits)
+    ≡ told (walk_table bytes_step l.walk.cat.now l.walk.layout.now l.walk.budget l.levels (fields_of l.table) l.fn.start.fp l.fn.start.visits)

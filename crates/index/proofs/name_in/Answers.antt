@@ -1,27 +1,24 @@
-use Rattle.field.specs.Field.{field_at}
-use Rattle.index_rules.proofs.Lookups.{fields-end, name-here, name-later, names-end}
-use Rattle.layout.specs.Layout.{name_at, record_at}
-use native.Mathlib.Omega.{arith}
+use mathlib.Core.Path.{sym, ◌∙◌}
+use Rattle.field.specs.Field.{fields_of}
+use Rattle.index_rules.proofs.Lookups.{name-here, name-later, names-end, fields-end}
+use Rattle.layout.specs.Layout.{record_at}
 use Rattle.index.proofs.name_in.Goals as goal
 
-pub loop-left-init : goal.loop-left-init
+pub loop-f-init : goal.loop-f-init
 unfolding record_at
-loop-left-init c = (omega arith, omega (arith, c.names_from-slot.ensures.1, c.names_count-names.ensures.1), rw (c.names_from-slot.ensures.0, c.names_count-names.ensures.0, c.table_at-t.ensures))
+loop-f-init c = rw (c.into_iter-f-iterator.ensures.into_iter_gives, c.rows_of-f-items.ensures, c.names_of-names.ensures, c.table_at.ensures)
 
-pub returns-then-names-eq0 : goal.returns-then-names-eq0
-returns-then-names-eq0 c = names-end c.args.cat.now c.args.name.now (name_at c.args.l.now) (field_at c.table_at-t.result.now) c.loop-left.slot c.loop-left.names c.loop-left.at c.loop-left.left _ c.loop-left.invariant.2 c.if-names-eq0.true
+pub returns-in_err-name : goal.returns-in_err-name
+returns-in_err-name c =
+    rw c.from_residual.ensures (names-end c.args.cat.now c.args.wanted.now c.loop-f.names (fields_of c.loop-f.f-iterator.rest.now) c.loop-f.invariant c.in_err-name.ensures.steps.0)
 
-pub returns-then-name_is-is_padding : goal.returns-then-name_is-is_padding
-returns-then-name_is-is_padding c = name-here c.args.cat.now c.args.name.now (name_at c.args.l.now) (field_at c.table_at-t.result.now) c.loop-left.slot c.loop-left.names c.loop-left.at c.loop-left.left _ c.loop-left.invariant.2 (omega arith) (omega arith)
-    c.field_in-f.result c.name_is.result c.is_padding.result c.field_in-f.ensures c.name_is.ensures c.is_padding.ensures c.if-name_is-is_padding.true
+pub returns-then-has_name : goal.returns-then-has_name
+returns-then-has_name c =
+    name-here c.args.cat.now c.args.wanted.now c.loop-f.names (fields_of c.loop-f.f-iterator.rest.now) c.loop-f.invariant c.in_ok-name.ensures.steps c.in-Some.ensures.steps (sym c.has_name.ensures ∙ c.if-has_name.true)
 
-pub loop-left-preserved : goal.loop-left-preserved
-loop-left-preserved c = (
-  omega arith,
-  omega arith,
-  name-later c.args.cat.now c.args.name.now (name_at c.args.l.now) (field_at c.table_at-t.result.now) c.loop-left.slot c.loop-left.names c.loop-left.at c.loop-left.left _ c.loop-left.invariant.2 (omega arith) (omega arith)
-      c.field_in-f.result c.name_is.result c.is_padding.result c.field_in-f.ensures c.name_is.ensures c.is_padding.ensures c.if-name_is-is_padding.false,
-)
+pub loop-f-preserved : goal.loop-f-preserved
+loop-f-preserved c =
+    name-later c.args.cat.now c.args.wanted.now c.loop-f.names (fields_of c.loop-f.f-iterator.rest.now) c.loop-f.invariant c.in_ok-name.ensures.steps c.in-Some.ensures.steps (sym c.has_name.ensures ∙ c.if-has_name.false)
 
 pub returns : goal.returns
-returns c = fields-end c.args.cat.now c.args.name.now (name_at c.args.l.now) (field_at c.table_at-t.result.now) c.loop-left.slot c.loop-left.names c.loop-left.at c.loop-left.left _ c.loop-left.invariant.2 (omega arith)
+returns c = fields-end c.args.cat.now c.args.wanted.now c.loop-f.names (fields_of c.loop-f.f-iterator.rest.now) c.loop-f.invariant c.in-None.ensures.steps.0

@@ -1,12 +1,16 @@
 // The item 'field': its words, the call of the field cursor, and what a target's field has besides.
-use crate::layouts::state::State;
-use crate::layouts::{default_bytes, fault, state, words};
-use caseline::Parsed;
-use cursor_rules::{FieldCursor, Placed, Times};
+use crate::layouts::default_bytes;
+use crate::layouts::fault::{Fault, Flaw};
+use crate::layouts::item::{Item, Part};
+use crate::layouts::line::Line;
+use crate::layouts::open_table::Table;
+use crate::layouts::whole::Open;
+use cursor_rules::Times;
 use field::Holder;
-use owl_blocks::room::Room;
-use owl_blocks::{pack, room, types};
-use tuppenceowl::building;
+use limits::refusal::Refusal;
+use owl_blocks::room::{Room, Side};
+use owl_blocks::types;
+use owl_blocks::types::{Class, Kind};
 
 // Words of the shortest line, and where the first word that may be left out stands.
 const SHORTEST: usize = 4;
@@ -14,151 +18,163 @@ const SHORTEST: usize = 4;
 // The longest array or string.
 const MOST: u16 = limits::MAX_BYTES as u16;
 
-// What the words of a line say.
-#[derive(Clone, Copy)]
-pub struct Field {
-    pub id: u16,
-    // The number of a type of the catalogue, or behind them that of a closed struct; behind these, none.
-    pub t: usize,
-    // 16 x class + width; nothing of a struct.
-    pub kind: u8,
-    pub counted: bool,
-    // One where it is not counted.
-    pub many: u16,
-    pub marked: bool,
-    pub defaulted: bool,
-    // How many words the line should have.
-    pub end: usize,
-}
-
 // ---- the words
 
-fn type_of(word: &[u8], room: &Room, structs: u8) -> usize {
-    let id = types::of_word(word);
-    if id < types::TYPES {
-        return id;
-    }
-    let l = room::block(room, state::SOURCE);
-    types::TYPES + pack::named(Holder::Struct, l, structs, word) as usize
+// The words that may be left out.
+#[derive(Clone, Copy)]
+struct Options {
+    // How many bytes a string has, or elements an array.
+    count: Option<u16>,
+    marked: bool,
+    defaulted: bool,
+    // How many words the line should have.
+    end: usize,
 }
 
-fn field_of(line: &[u8], room: &Room, structs: u8) -> Field {
-    let mut many: u16 = 1;
-    let mut counted = false;
-    if let Parsed::Is(n) = caseline::number(blanks::word(line, SHORTEST)) {
-        many = lent::lesser(n, limits::MAX_BYTES + 1) as u16;
-        counted = true;
+impl Options {
+    fn of(line: Line<'_>) -> Options {
+        let number = caseline::number(line.word(SHORTEST));
+        let count = number.map(|n| u16::try_from(n).unwrap_or(u16::MAX));
+        let at = SHORTEST + usize::from(count.is_some());
+        let marked = matches!(line.word(at), b"mark");
+        let next = at + usize::from(marked);
+        let defaulted = matches!(line.word(next), b"default");
+        let end = if defaulted { next + 2 } else { next };
+        Options {
+            count,
+            marked,
+            defaulted,
+            end,
+        }
     }
-    let at = SHORTEST + lent::one(counted) as usize;
-    let options = b"mark default";
-    let marked = blanks::which(options, blanks::word(line, at)) == 0;
-    let next = at + lent::one(marked) as usize;
-    let defaulted = blanks::which(options, blanks::word(line, next)) == 1;
-    let t = type_of(blanks::word(line, 3), room, structs);
-    Field {
-        id: (words::number(line, 2) % words::NONE) as u16,
-        t,
-        kind: lent::byte_at(lent::part(room, 0, types::TYPES), t),
-        counted,
-        many,
-        marked,
-        defaulted,
-        end: next + 2 * lent::one(defaulted) as usize,
+}
+
+#[derive(Clone, Copy)]
+enum Type {
+    // Of the catalogue, by its number.
+    Plain(u8, Kind),
+    // A closed struct, by its number.
+    Struct(u8),
+}
+
+fn type_of(word: &[u8], room: &Room) -> Option<Type> {
+    match types::of_word(word) {
+        Some(id) => Some(Type::Plain(id, Kind::from(room.catalogue[usize::from(id)]))),
+        None => room.source.named(Holder::Struct, word).map(Type::Struct),
     }
+}
+
+// What the words of a line say.
+#[derive(Clone, Copy)]
+struct Field<'a> {
+    name: &'a [u8],
+    id: u16,
+    of: Type,
+    count: Option<u16>,
+}
+
+fn has_words(line: Line<'_>, end: usize) -> Result<(), Flaw<'_>> {
+    let n = line.words();
+    if n < end {
+        return Err(line.flaw(n, Fault::TooFew(Item::Part(Part::Field))));
+    }
+    if end < n {
+        return Err(line.flaw(end, Fault::NotOptional));
+    }
+    Ok(())
+}
+
+fn field_of<'a>(line: Line<'a>, options: &Options, room: &Room) -> Result<Field<'a>, Flaw<'a>> {
+    has_words(line, options.end)?;
+    let name = line.name()?;
+    if options.count.is_some_and(|count| MOST < count) {
+        return Err(line.flaw(SHORTEST, Fault::NoCount));
+    }
+    let Some(of) = type_of(line.word(3), room) else {
+        return Err(line.flaw(3, Fault::NoType));
+    };
+    let is_text = matches!(of, Type::Plain(_, kind) if kind.class == Class::Text);
+    if is_text & options.count.is_none() {
+        return Err(line.flaw(SHORTEST, Fault::NoCount));
+    }
+    Ok(Field {
+        name,
+        id: line.number_at(2)?,
+        of,
+        count: options.count,
+    })
 }
 
 // ---- the call, and the target's mark and default
 
-// What no scalar has as its width is refused by the call.
-fn size(kind: u8, many: u16) -> u16 {
-    let n = many % 4097;
-    match kind % 16 {
-        1 => n,
-        2 => 2 * n,
-        4 => 4 * n,
-        _ => 8 * n,
-    }
-}
-
-// The cursor's answer.
-fn placed(
-    name: &[u8],
-    room: &Room,
-    f: Field,
-    c: FieldCursor,
-    rows: &mut [u8],
-    names: &mut [u8],
-) -> Placed {
-    let cat = room::catalogue(room);
-    if types::TYPES <= f.t {
-        let k = ((f.t - types::TYPES) % 256) as u16;
-        let l = room::block(room, state::SOURCE);
-        let times = if f.counted {
-            Times::Array(f.many)
-        } else {
-            Times::One
+impl Field<'_> {
+    // What no scalar has as its width is refused by the call.
+    fn size(&self, width: u8) -> u16 {
+        let wide = match width {
+            1 | 2 | 4 => u16::from(width),
+            _ => 8,
         };
-        return building::nested(cat, l, rows, names, c, f.id, k, times, name);
+        wide.saturating_mul(self.count.unwrap_or(1))
     }
-    let t = f.t as u8;
-    if f.kind / 16 == types::STRING {
-        return building::string(cat, rows, names, c, f.id, t, f.many, 0, name);
-    }
-    let size = size(f.kind, f.many);
-    let array = lent::byte_at(room, types::TYPES);
-    let flags = if f.counted { array } else { 0 };
-    building::scalar(cat, rows, names, c, f.id, t, size, flags, 0, name)
-}
 
-fn kept(line: &[u8], room: &mut Room, f: Field, s: State) -> State {
-    if (s.why != fault::FINE) | !(f.marked | f.defaulted) {
-        return s;
-    }
-    if s.open != state::TARGET {
-        return state::bad(s, SHORTEST, fault::NO_DEFAULT);
-    }
-    if f.marked {
-        if f.counted | !default_bytes::mark(room, f.kind, s) {
-            return state::bad(s, 3, fault::NO_MARK);
+    fn place(&self, room: &Room, table: &mut Table) -> Result<(), Refusal> {
+        let cat = &room.catalogue;
+        match self.of {
+            Type::Struct(k) => {
+                let times = self.count.map_or(Times::One, Times::Array);
+                table.nested(cat, &room.source.bytes, self.id, k, times, self.name)
+            }
+            Type::Plain(id, kind) if kind.class == Class::Text => {
+                table.string(cat, self.id, id, self.count.unwrap_or(1), self.name)
+            }
+            Type::Plain(id, kind) => {
+                let array = cat[types::TYPES];
+                let flags = if self.count.is_some() { array } else { 0 };
+                table.scalar(cat, self.id, id, self.size(kind.width), flags, self.name)
+            }
         }
     }
-    if f.defaulted {
-        return default_bytes::put(line, room, f.end, s);
+
+    // The kind of an integer that is no array, which alone has a mark.
+    fn markable(&self) -> Option<Kind> {
+        match (self.of, self.count) {
+            (Type::Plain(_, kind), None) => Some(kind),
+            _ => None,
+        }
     }
-    s
 }
 
-fn laid(line: &[u8], room: &mut Room, f: Field, s: State) -> State {
-    let name = blanks::word(line, 1);
-    let mut rows = s.rows;
-    let mut names = s.names;
-    let answer = placed(name, room, f, s.cursor, &mut rows, &mut names);
-    kept(line, room, f, state::after(answer, rows, names, 3, s))
+fn keep<'a>(
+    line: Line<'a>,
+    options: &Options,
+    field: &Field<'a>,
+    room: &mut Room,
+    open: &Open<'a>,
+) -> Result<(), Flaw<'a>> {
+    if !(options.marked | options.defaulted) {
+        return Ok(());
+    }
+    let k = usize::from(room.target.records);
+    let (Some(Side::Target), Some(defaults)) = (open.side, room.defaults.get_mut(k)) else {
+        return Err(line.flaw(SHORTEST, Fault::NoDefault));
+    };
+    if options.marked {
+        field
+            .markable()
+            .and_then(|kind| default_bytes::mark(defaults, &open.table, kind))
+            .ok_or(line.flaw(3, Fault::NoMark))?;
+    }
+    if options.defaulted {
+        default_bytes::put(line, options.end, defaults, &open.table)?;
+    }
+    Ok(())
 }
 
-pub fn take(line: &[u8], room: &mut Room, s: State) -> State {
-    let f = field_of(line, room, s.structs);
-    let n = blanks::words(line);
-    if n < f.end {
-        return state::bad(s, n, fault::TOO_FEW);
-    }
-    if f.end < n {
-        return state::bad(s, f.end, fault::NOT_OPTIONAL);
-    }
-    if limits::MAX_NAME < blanks::word(line, 1).len() {
-        return state::bad(s, 1, fault::LONG_NAME);
-    }
-    if MOST < f.many {
-        return state::bad(s, SHORTEST, fault::NO_COUNT);
-    }
-    if f.t == types::TYPES + lent::wide8(s.structs) {
-        return state::bad(s, 3, fault::NO_TYPE);
-    }
-    if (f.kind / 16 == types::STRING) & !f.counted {
-        return state::bad(s, SHORTEST, fault::NO_COUNT);
-    }
-    if words::number(line, 2) == words::NONE {
-        return state::bad(s, 2, fault::NO_NUMBER);
-    }
-    laid(line, room, f, s)
+pub fn take<'a>(line: Line<'a>, room: &mut Room, open: &mut Open<'a>) -> Result<(), Flaw<'a>> {
+    let options = Options::of(line);
+    let field = field_of(line, &options, room)?;
+    field
+        .place(room, &mut open.table)
+        .map_err(|refusal| line.flaw(3, Fault::Refused(refusal)))?;
+    keep(line, &options, &field, room, open)
 }

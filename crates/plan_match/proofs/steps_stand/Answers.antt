@@ -1,27 +1,33 @@
-use Rattle.plan_match.proofs.Parted.{steps-end, steps-go, steps-stop}
-use Rattle.plan_text.proofs.Laid.{steps-length, steps-none}
-use Rattle.plan_text.specs.Text.{step_lines}
-use Rattle.step.specs.Packed.{steps_at}
-use borrow.Author.Tests.{not-false, not-true}
+use Rattle.plan_match.proofs.Parted.{steps-end, steps-go, steps-stop, stood-some}
+use Rattle.plan_text.proofs.Laid.{lines-length, lines-none}
+use Rattle.plan_text.specs.Text.{step_line, step_lines}
+use Rattle.step.specs.Packed.{steps_of}
 use lib.ListN.{length}
 use mathlib.Core.Path.{◌≡◌, ap, refl}
 use native.Mathlib.Omega.{arith}
 use Rattle.plan_match.proofs.steps_stand.Goals as goal
 
-pub loop-left-init : goal.loop-left-init
-loop-left-init c = (omega arith, omega arith, c.requires.1, refl)
+pub loop-step-init : goal.loop-step-init
+loop-step-init c = rw (c.into_iter-step-iterator.ensures.into_iter_gives, c.steps_in-step-items.ensures) (c.requires.1, refl)
 
-pub returns-then-not-stood : goal.returns-then-not-stood
-returns-then-not-stood c = steps-stop c.args.slot.now c.args.text.now c.loop-left.from c.loop-left.left c.loop-left.next _ c.loop-left.invariant.3 c.step_stands-stood.result.there (omega arith) (rw c.step_in.ensures at c.step_stands-stood.ensures.0) (not-true _ c.if-not-stood.true)
+pub returns-in_default : goal.returns-in_default
+returns-in_default c = steps-stop c.args.text.now c.loop-step.next c.loop-step.invariant.1 c.in-Some.ensures.steps c.in_default.ensures
 
 pub overflow_add-next : goal.overflow_add-next
-overflow_add-next c = let e = steps-length c.args.slot.now c.loop-left.from c.loop-left.left (omega arith) in let w = rw c.step_in.ensures at c.step_stands-stood.ensures.1 in omega arith
+overflow_add-next c =
+    let e = lines-length c.in-Some.ensures.steps in
+    let f = stood-some (step_line c.in-Some.step.op) c.args.text.now c.loop-step.next c.in-Some-step_stands.ensures in
+    let w = f.1 in
+    omega arith
 
-pub loop-left-preserved : goal.loop-left-preserved
-loop-left-preserved c = let e = steps-length c.args.slot.now c.loop-left.from c.loop-left.left (omega arith) in
-    let w = rw c.step_in.ensures at c.step_stands-stood.ensures.1 in
-    (omega arith, omega arith, omega arith, steps-go c.args.slot.now c.args.text.now c.loop-left.from c.loop-left.left c.loop-left.next _ c.loop-left.invariant.3 c.step_stands-stood.result.there c.step_stands-stood.result.wide (omega arith) (rw c.step_in.ensures at c.step_stands-stood.ensures.0) (not-false _ c.if-not-stood.false) w)
+pub loop-step-preserved : goal.loop-step-preserved
+loop-step-preserved c =
+    let e = lines-length c.in-Some.ensures.steps in
+    let f = stood-some (step_line c.in-Some.step.op) c.args.text.now c.loop-step.next c.in-Some-step_stands.ensures in
+    let w = f.1 in
+    (omega arith, steps-go c.args.text.now c.loop-step.next c.loop-step.invariant.1 c.in-Some-step_stands.wide c.in-Some.ensures.steps c.in-Some-step_stands.ensures)
 
 pub returns : goal.returns
-returns c = let e : length (step_lines (steps_at c.args.slot.now c.loop-left.from c.loop-left.left)) ≡ 0 = ap length (steps-none c.args.slot.now c.loop-left.from c.loop-left.left (omega arith)) in
-    steps-end c.args.slot.now c.args.text.now c.loop-left.from c.loop-left.left c.loop-left.next _ c.loop-left.invariant.3 (omega arith) (omega arith)
+returns c =
+    let e : length (step_lines (steps_of c.loop-step.step-iterator.rest.now)) ≡ 0 = ap length (lines-none c.in-None.ensures.steps.0) in
+    steps-end c.args.text.now c.loop-step.next c.loop-step.invariant.1 c.in-None.ensures.steps.0 (omega arith)

@@ -8,7 +8,6 @@ use mathlib.Core.Path.{◌≡◌}
 use Rattle.plan_take.proofs.take_numbers.Given as goal
 
 abbrev pub invariant-loop-k : goal.invariant-loop-k
-invariant-loop-k l = (l.k ≤ l.n) × (length l.out ≡ length l.initial.out) × (l.next ≤ length l.text) × (sets l.out (2 * l.k) (numbers_as (l.n - l.k) (drop l.next l.text)) ≡ sets l.initial.out 0 (numbers_as l.n (drop l.at l.text))) × (pasts (l.n - l.k) (drop l.next l.text) ≡ pasts l.n (drop l.at l.text))
-
-abbrev pub decreases-loop-k : goal.decreases-loop-k
-decreases-loop-k l = l.n - l.k
+invariant-loop-k l = (length l.out ≡ length l.initial.out) × (l.next ≤ length l.text)
+    × (sets l.out (2 * l.k) (numbers_as (l.n - l.k) (drop l.next l.text)) ≡ sets l.initial.out 0 (numbers_as l.n (drop l.at l.text)))
+    × (pasts (l.n - l.k) (drop l.next l.text) ≡ pasts l.n (drop l.at l.text))

@@ -20,7 +20,7 @@ returns-then-not-header_ok c = let a = c.args in
 pub defaults_ok-requires : goal.defaults_ok-requires
 defaults_ok-requires c = let a = c.args in
     let h = header-fits a.cat.now a.header c.record_size-size.result (fields_of c.table_at-want.result.now) (sym c.header_ok.ensures ∙ c.if-not-header_ok.false) in
-    (h.1, rw c.record_size-size.ensures c.requires.3, rw c.table_at-want.ensures c.requires.4)
+    (h.1, rw c.record_size-size.ensures c.requires.1, rw c.table_at-want.ensures c.requires.2)
 
 pub returns-then-not-defaults_ok : goal.returns-then-not-defaults_ok
 returns-then-not-defaults_ok c = let a = c.args in
@@ -38,8 +38,8 @@ pub lay-requires : goal.lay-requires
 lay-requires c = let a = c.args in
     let h = header-fits a.cat.now a.header c.record_size-size.result (fields_of c.table_at-want.result.now) (sym c.header_ok.ensures ∙ c.if-not-header_ok.false) in
     let b = body-fits a.cat.now a.header c.record_size-size.result (fields_of c.table_at-want.result.now) _ a.body.now (sym c.defaults_ok.ensures ∙ c.if-not-defaults_ok.false) in
-    let n : c.record_size-size.result ≤ max_bytes = rw c.record_size-size.ensures c.requires.3 in
-    (c.requires.0, c.requires.1, h.0, c.requires.2, c.requires.3, c.requires.4, omega (arith, b, n), c.if-room-lt-SIZE.false, c.requires.5, c.record_size-size.ensures)
+    let n : c.record_size-size.result ≤ max_bytes = rw c.record_size-size.ensures c.requires.1 in
+    (h.0, c.requires.0, c.requires.1, c.requires.2, omega (arith, b, n), c.if-room-lt-SIZE.false, c.requires.3, c.record_size-size.ensures)
 
 pub returns : goal.returns
 returns c = let a = c.args in

@@ -1,69 +1,57 @@
-use Rattle.coalesce.proofs.Onto.{join_onto}
+use Rattle.std.proofs.Common.{refl, sym, ◌∙◌, arith}
 use Rattle.field.specs.Field.{fields_of}
+use Rattle.coalesce.proofs.Onto.{join_onto}
 use Rattle.plan_rules.specs.Rule.{want_at}
 use Rattle.steps.proofs.Planning.{first_step, has-default, joins-last, no_more, one-means, stands-alone, two-means}
 use lib.ListN.{length-set}
-use mathlib.Core.Path.{◌∙◌, refl, sym}
-use native.Mathlib.Omega.{arith}
 use Rattle.steps.proofs.in_order.Goals as goal
+use Rattle.steps.proofs.in_order.Goals.{then-count-ne0+in_default-join, else-count-ne0}
 
-pub next-init : goal.next-init
+pub loop-place-init : goal.loop-place-init
 unfolding join_onto
-next-init c = (omega arith, omega arith, refl, refl)
+loop-place-init c = (omega arith, refl, refl)
 
-pub step_of-requires : goal.step_of-requires
-step_of-requires c = (rw c.wide16-at.ensures.0 (c.requires.4 c.next.k (omega arith)), c.index-index.ensures)
-
-pub next-preserved-in-Default : goal.next-preserved-in-Default
-next-preserved-in-Default c = let a = c.args in
-    let l = c.next in (
+pub loop-place-preserved-in_default : goal.loop-place-preserved-in_default
+loop-place-preserved-in_default c = let a = c.args in
+    let l = c.loop-place in (
       omega arith,
-      omega arith,
-      l.invariant.2,
-      has-default a.cat.now (fields_of a.src.now) (want_at a.cat.now a.marks.now a.dst.now) a.order.now a.n
-          a.bases.source a.bases.target l.k l.count l.steps _ l.invariant.3 (omega arith) (omega arith)
-          (rw (← c.wide16-at.ensures.0) (sym c.step_of.ensures ∙ c.in-Default.is)),
+      l.invariant.1,
+      has-default a.cat.now (fields_of a.source.now.table.now) (want_at a.cat.now a.marks.now a.dst.now) a.order.now
+          a.bases.source a.bases.target l.place-index l.count l.steps _ l.invariant.2 c.loop-place-test.true
+          (rw (← c.from.ensures, ← c.want_at-want.ensures) (sym c.step_of.ensures ∙ c.in_default.is)),
     )
 
-pub next-preserved-then-count-eq0 : goal.next-preserved-then-count-eq0
-next-preserved-then-count-eq0 c = let a = c.args in
-    let l = c.next in (
+pub loop-place-preserved-in-Some-join : goal.loop-place-preserved-in-Some-join
+loop-place-preserved-in-Some-join c = let a = c.args in
+    let l = c.loop-place in
+    let j = one-means _ _ _ (sym c.join.ensures ∙ c.in-Some-join.is) in (
       omega arith,
-      omega arith,
-      simp length-set l.invariant.2,
-      first_step a.cat.now (fields_of a.src.now) (want_at a.cat.now a.marks.now a.dst.now) a.order.now a.n
-          a.bases.source a.bases.target l.k l.count l.steps _ l.invariant.3 (omega arith) (omega arith)
-          _ (rw (← c.wide16-at.ensures.0) (sym c.step_of.ensures ∙ c.in-By.is)) (omega arith) (omega arith),
+      simp length-set l.invariant.1,
+      joins-last a.cat.now (fields_of a.source.now.table.now) (want_at a.cat.now a.marks.now a.dst.now) a.order.now
+          a.bases.source a.bases.target l.place-index l.count l.steps _ l.invariant.2 c.loop-place-test.true
+          _ (rw (← c.from.ensures, ← c.want_at-want.ensures) (sym c.step_of.ensures ∙ c.in-Some.is)) _ (omega arith) (omega arith) j.0 _ j.1,
     )
 
-pub next-preserved-in-One : goal.next-preserved-in-One
-next-preserved-in-One c = let a = c.args in
-    let l = c.next in
-    let j = one-means _ _ _ (sym c.join.ensures ∙ c.in-One.is) in (
+pub loop-place-preserved : goal.loop-place-preserved
+loop-place-preserved c = let a = c.args in
+    let l = c.loop-place in (
       omega arith,
-      omega arith,
-      simp length-set l.invariant.2,
-      joins-last a.cat.now (fields_of a.src.now) (want_at a.cat.now a.marks.now a.dst.now) a.order.now a.n
-          a.bases.source a.bases.target l.k l.count l.steps _ l.invariant.3 (omega arith) (omega arith)
-          _ (rw (← c.wide16-at.ensures.0) (sym c.step_of.ensures ∙ c.in-By.is)) _ (omega arith) (omega arith) j.0 _ j.1,
+      simp length-set l.invariant.1,
+      elim c.if-count-ne0.branch [
+        | then-count-ne0+in_default-join w ↦
+            stands-alone a.cat.now (fields_of a.source.now.table.now) (want_at a.cat.now a.marks.now a.dst.now) a.order.now
+            a.bases.source a.bases.target l.place-index l.count l.steps _ l.invariant.2 c.loop-place-test.true
+            _ (rw (← c.from.ensures, ← c.want_at-want.ensures) (sym c.step_of.ensures ∙ c.in-Some.is)) _ (omega arith) (omega arith)
+            (two-means _ _ (sym w.join.ensures ∙ w.in_default-join.is)) (omega arith)
+        | else-count-ne0 w ↦
+            first_step a.cat.now (fields_of a.source.now.table.now) (want_at a.cat.now a.marks.now a.dst.now) a.order.now
+            a.bases.source a.bases.target l.place-index l.count l.steps _ l.invariant.2 c.loop-place-test.true
+            _ (rw (← c.from.ensures, ← c.want_at-want.ensures) (sym c.step_of.ensures ∙ c.in-Some.is)) (omega arith) (omega arith)
+      ],
     )
 
-pub next-preserved : goal.next-preserved
-next-preserved c = let a = c.args in
-    let l = c.next in
-    let j = two-means _ _ (sym c.join.ensures ∙ c.in-Two.is) in (
-      omega arith,
-      omega arith,
-      simp length-set l.invariant.2,
-      stands-alone a.cat.now (fields_of a.src.now) (want_at a.cat.now a.marks.now a.dst.now) a.order.now a.n
-          a.bases.source a.bases.target l.k l.count l.steps _ l.invariant.3 (omega arith) (omega arith)
-          _ (rw (← c.wide16-at.ensures.0) (sym c.step_of.ensures ∙ c.in-By.is)) _ (omega arith) (omega arith) j (omega arith),
-    )
-
-pub returns : goal.returns
-returns c = let a = c.args in
-    let l = c.next in (
-      no_more a.cat.now (fields_of a.src.now) (want_at a.cat.now a.marks.now a.dst.now) a.order.now a.n
-          a.bases.source a.bases.target l.k l.count l.steps _ l.invariant.3 (omega arith),
-      omega arith,
-    )
+pub returns-clause-steps : goal.returns-clause-steps
+returns-clause-steps c = let a = c.args in
+    let l = c.loop-place in
+    no_more a.cat.now (fields_of a.source.now.table.now) (want_at a.cat.now a.marks.now a.dst.now) a.order.now
+    a.bases.source a.bases.target l.place-index l.count l.steps _ l.invariant.2 c.loop-place-test.false

@@ -1,28 +1,13 @@
-use Rattle.field.specs.Field.{field_at}
 use Rattle.table_rules.proofs.Tidy.{tidy-stops, tidy-goes, tidy-ends}
-use mathlib.Core.Path.{refl}
-use native.Mathlib.Omega.{arith}
 use Rattle.table.proofs.tidy_ok.Goals as goal
 
-pub loop-left-init : goal.loop-left-init
-loop-left-init c = (omega arith, refl)
+pub returns-then-not-low-from : goal.returns-then-not-low-from
+returns-then-not-low-from c = tidy-stops c.args.cat.now c.args.most c.loop-f.low c.loop-f.invariant c.in-Some.ensures.steps
+    (rw (← c.alone_ok.ensures, ← c.from.ensures) c.if-not-low-from.true)
 
-pub returns-then-not-good : goal.returns-then-not-good
-returns-then-not-good c = let a = c.args in
-    let l = c.loop-left in
-    tidy-stops a.cat.now a.most (field_at a.t.now) l.low l.at l.left _ l.invariant.1 (omega arith)
-    (rw (← c.field_in-f.ensures, ← c.alone_ok.ensures, ← c.wide16.ensures.0) (c.if-not-good.true))
-
-pub loop-left-preserved : goal.loop-left-preserved
-loop-left-preserved c = let a = c.args in
-    let l = c.loop-left in (
-      omega arith,
-      rw (c.end_of-low.ensures.0, c.field_in-f.ensures)
-          (tidy-goes a.cat.now a.most (field_at a.t.now) l.low l.at l.left _ l.invariant.1 (omega arith)
-          (rw (← c.field_in-f.ensures, ← c.alone_ok.ensures, ← c.wide16.ensures.0) (c.if-not-good.false))),
-    )
+pub loop-f-preserved : goal.loop-f-preserved
+loop-f-preserved c = rw c.end_of-low.ensures.0 (tidy-goes c.args.cat.now c.args.most c.loop-f.low c.loop-f.invariant c.in-Some.ensures.steps
+    (rw (← c.alone_ok.ensures, ← c.from.ensures) c.if-not-low-from.false))
 
 pub returns : goal.returns
-returns c = let a = c.args in
-    let l = c.loop-left in
-    tidy-ends a.cat.now a.most (field_at a.t.now) l.low l.at l.left _ l.invariant.1 (omega arith)
+returns c = tidy-ends c.args.cat.now c.args.most c.loop-f.low c.loop-f.invariant c.in-None.ensures.steps.0

@@ -9,4 +9,4 @@ use Rattle.builders.proofs.placing.laid_field.Goals as goal
 pub returns : goal.returns
 unfolding laid
 returns c = let small : SFits w8 c.args.f.scale = record { sfits = omega arith } in
-    rw (c.narrow.ensures, c.align_up.ensures.0, c.flags_after.ensures, to_z-of_z w8 c.args.f.scale small)
+    rw (c.align_up.ensures.0, c.flags_after.ensures, to_z-of_z w8 c.args.f.scale small)

@@ -1,4 +1,4 @@
 use Rattle.builders.proofs.placing.padding_field.Goals as goal
 
 pub returns : goal.returns
-returns c = rw (c.padding_id.ensures, c.narrow.ensures, c.narrow-2.ensures, c.id_of.ensures)
+returns c = rw (c.padding_id.ensures, c.id_of.ensures)

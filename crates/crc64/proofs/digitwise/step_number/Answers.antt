@@ -4,11 +4,12 @@ use Rattle.std.proofs.Common.{◌-◌, ◌%◌, ◌∙◌, arith}
 use lib.Bits.{bit_xor}
 use Rattle.crc64.proofs.digitwise.step_number.Goals as goal
 
-pub loop-left-init : goal.loop-left-init
-loop-left-init c = (omega arith, digits-start c.args.n (bit_xor c.args.fp c.args.v))
+pub loop-above-init : goal.loop-above-init
+loop-above-init c = digits-start c.args.n (bit_xor c.args.fp c.args.v)
 
-pub loop-left-preserved : goal.loop-left-preserved
-loop-left-preserved c = (omega arith, digit-goes c.loop-left.left c.loop-left.sum c.loop-left.rest _ c.loop-left.invariant.1 (omega arith) _ (at-digit _ c.requires.0 (c.loop-left.left - 1) (c.loop-left.rest % 16) (omega arith) (omega arith)))
+pub loop-above-preserved : goal.loop-above-preserved
+loop-above-preserved c = let l = c.loop-above in
+    digit-goes l.above l.sum l.rest _ l.invariant (omega arith) _ (at-digit _ c.table-t.ensures (l.above - 1) (l.rest % 16) (omega arith) (omega arith))
 
 pub returns : goal.returns
-returns c = digits-end c.loop-left.left c.loop-left.sum c.loop-left.rest _ c.loop-left.invariant.1 (omega arith) ∙ number-goes c.args.n c.args.fp c.args.v c.requires.2
+returns c = digits-end c.loop-above.above c.loop-above.sum c.loop-above.rest _ c.loop-above.invariant (omega arith) ∙ number-goes c.args.n c.args.fp c.args.v c.requires.1

@@ -1,5 +1,5 @@
 -- What is left to compare decides.
-use Prim.Native.Nat.{◌*◌, ◌+◌, ◌-◌, ◌≤◌}
+use Prim.Native.Nat.{◌*◌, ◌+◌, ◌-◌}
 use Rattle.decimal.specs.Hex.{hex}
 use Rattle.lent.specs.Bytes.{window}
 use Rattle.lent.specs.Scan.{alike}
@@ -8,7 +8,4 @@ use mathlib.Core.Path.{◌≡◌}
 use Rattle.decimal.proofs.hexes.same_hex.Given as goal
 
 abbrev pub invariant-loop-i : goal.invariant-loop-i
-invariant-loop-i l = (l.i ≤ l.n) × (alike eqb (hex (window l.s (l.from + l.i) (l.n - l.i))) (window l.text (l.at + 2 * l.i) (2 * l.n - 2 * l.i)) ≡ alike eqb (hex (window l.s l.from l.n)) (window l.text l.at (2 * l.n)))
-
-abbrev pub decreases-loop-i : goal.decreases-loop-i
-decreases-loop-i l = l.n - l.i
+invariant-loop-i l = (alike eqb (hex (window l.s (l.from + l.i) (l.n - l.i))) (window l.text (l.at + 2 * l.i) (2 * l.n - 2 * l.i)) ≡ alike eqb (hex (window l.s l.from l.n)) (window l.text l.at (2 * l.n)))

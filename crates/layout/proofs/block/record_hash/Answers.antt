@@ -7,4 +7,4 @@ use Rattle.layout.proofs.block.record_hash.Goals as goal
 
 pub returns : goal.returns
 unfolding record_at
-returns c = omega (arith, number-add c.args.l.now (c.args.h + 8) 4 4)
+returns c = rw (← c.at-low.ensures.0) (omega (arith, number-add c.args.l.now (c.at-low.result + 8) 4 4))

@@ -3,4 +3,4 @@ use Rattle.layout.proofs.block.record_rtype.Goals as goal
 
 pub returns : goal.returns
 unfolding record_at
-returns c = c.u16_at.ensures
+returns c = rw c.at.ensures.0 at c.u16_at.ensures

@@ -1,20 +1,28 @@
-use Prim.Native.Nat.{ℕ}
-use Rattle.layout.specs.Find.{first_of, is_of}
-use Rattle.layout.specs.declared.find.Place.TheVariants.{At, Nowhere}
-use Rattle.lent.proofs.Scan.{first-here, first-later, first-nowhere}
-use mathlib.Core.Path.{◌∙◌, sym}
-use native.Mathlib.Omega.{arith}
+use mathlib.Core.Path.{sym, ◌∙◌, subst}
+use Rattle.std.proofs.Common.{Some, None}
+use Rattle.lent.proofs.Turns.{first-stops, first-goes, first-ends}
+use Rattle.layout.proofs.Nearby.{Near-first}
+use Rattle.layout.specs.Find.{is_of, first_of, Near}
 use Rattle.layout.proofs.find.first_of.Goals as goal
 
-pub loop-left-init : goal.loop-left-init
+pub loop-h-init : goal.loop-h-init
 unfolding first_of
-loop-left-init c = (omega arith, rw (c.heads_from-at.ensures.0, c.count_of-left.ensures.0))
+loop-h-init c = rw (c.into_iter-h-iterator.ensures.into_iter_gives, c.heads_of-h-items.ensures.heads)
 
-pub returns-then-is_of : goal.returns-then-is_of
-returns-then-is_of c = (first-here (λ (p : ℕ). p) 72 c.loop-left.at c.loop-left.left (is_of c.args.l.now c.args.rtype) At Nowhere _ c.loop-left.invariant.1 (omega arith) (sym c.is_of.ensures ∙ c.if-is_of.true), omega arith)
+pub returns-then-is_of-clause-place : goal.returns-then-is_of-clause-place
+returns-then-is_of-clause-place c =
+    first-stops (is_of c.args.l.now c.args.rtype) Some None c.loop-h.invariant c.in-Some.ensures.steps (sym c.is_of.ensures ∙ c.if-is_of.true)
 
-pub loop-left-preserved : goal.loop-left-preserved
-loop-left-preserved c = (omega arith, first-later (λ (p : ℕ). p) 72 c.loop-left.at c.loop-left.left (is_of c.args.l.now c.args.rtype) At Nowhere _ c.loop-left.invariant.1 (omega arith) (sym c.is_of.ensures ∙ c.if-is_of.false))
+pub returns-then-is_of-clause-near : goal.returns-then-is_of-clause-near
+unfolding first_of
+returns-then-is_of-clause-near c =
+    let place = first-stops (is_of c.args.l.now c.args.rtype) Some None c.loop-h.invariant c.in-Some.ensures.steps (sym c.is_of.ensures ∙ c.if-is_of.true) in
+    let heads = c.heads_of-h-items.ensures.near in
+    subst (λ place. Near place) (sym place) (Near-first (is_of c.args.l.now c.args.rtype) _ (rw c.heads_of-h-items.ensures.heads at heads))
 
-pub returns : goal.returns
-returns c = (first-nowhere (λ (p : ℕ). p) 72 c.loop-left.at c.loop-left.left (is_of c.args.l.now c.args.rtype) At Nowhere _ c.loop-left.invariant.1 (omega arith), tt)
+pub loop-h-preserved : goal.loop-h-preserved
+loop-h-preserved c =
+    first-goes (is_of c.args.l.now c.args.rtype) Some None c.loop-h.invariant c.in-Some.ensures.steps (sym c.is_of.ensures ∙ c.if-is_of.false)
+
+pub returns-clause-place : goal.returns-clause-place
+returns-clause-place c = first-ends (is_of c.args.l.now c.args.rtype) Some None c.loop-h.invariant c.in-None.ensures.steps.0

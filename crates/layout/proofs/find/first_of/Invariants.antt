@@ -1,13 +1,9 @@
--- The heads left decide.
-use Prim.Native.Nat.{◌*◌, ◌+◌, ◌<◌}
-use Rattle.layout.specs.Find.{first_of, is_of}
-use Rattle.layout.specs.declared.find.Place.TheVariants.{At, Nowhere}
-use Rattle.lent.specs.Scan.{first, places}
+-- The heads left give the first; each lies near.
 use mathlib.Core.Path.{◌≡◌}
+use Rattle.std.specs.Prelude.{Some, None}
+use Rattle.lent.specs.Scan.{first}
+use Rattle.layout.specs.Find.{is_of, first_of}
 use Rattle.layout.proofs.find.first_of.Given as goal
 
-abbrev pub invariant-loop-left : goal.invariant-loop-left
-invariant-loop-left l = (l.at + 72 * l.left < 10000000) × (first (is_of l.l l.rtype) At Nowhere (places 72 l.at l.left) ≡ first_of l.l l.rtype)
-
-abbrev pub decreases-loop-left : goal.decreases-loop-left
-decreases-loop-left l = l.left
+abbrev pub invariant-loop-h : goal.invariant-loop-h
+invariant-loop-h l = first (is_of l.l l.rtype) Some None l.h-iterator ≡ first_of l.l l.rtype

@@ -1,24 +1,24 @@
-use Prim.Native.Nat.{ℕ}
-use Rattle.layout.specs.Shape.{name_ok}
-use Rattle.lent.proofs.Scan.{stops, goes, ends}
-use mathlib.Core.Path.{refl, sym, ◌∙◌}
+use mathlib.Core.Path.{◌≡◌, sym, ◌∙◌}
+use Prim.Native.Nat.{ℕ, ◌+◌, ◌-◌, ◌*◌}
 use native.Mathlib.Omega.{arith}
+use Rattle.lent.proofs.Scan.{stops, goes, ends}
+use Rattle.layout.specs.Shape.{name_ok}
 use Rattle.layout.proofs.shape.names_ok.Goals as goal
 
-pub loop-left-init : goal.loop-left-init
-loop-left-init c = (omega arith, refl)
-
 pub returns-then-not-name_ok : goal.returns-then-not-name_ok
-returns-then-not-name_ok c = let l = c.loop-left in
-    stops (λ (p : ℕ). p) 33 l.at l.left (name_ok c.args.l.now) _ l.invariant.1 (omega arith)
-    (sym c.name_ok.ensures ∙ c.if-not-name_ok.true)
+returns-then-not-name_ok c =
+    let a = c.args in
+    stops (λ (at : ℕ). at) 33 (a.from + 33 * c.loop-k.k) (a.n - c.loop-k.k) (name_ok a.l.now) _ c.loop-k.invariant (omega arith) (sym c.name_ok.ensures ∙ c.if-not-name_ok.true)
 
-pub loop-left-preserved : goal.loop-left-preserved
-loop-left-preserved c = let l = c.loop-left in (
-  omega arith,
-  goes (λ (p : ℕ). p) 33 l.at l.left (name_ok c.args.l.now) _ l.invariant.1 (omega arith)
-      (sym c.name_ok.ensures ∙ c.if-not-name_ok.false),
-)
+pub loop-k-preserved : goal.loop-k-preserved
+loop-k-preserved c =
+    let a = c.args in
+    let k : ℕ = c.loop-k.k in
+    let at : a.from + 33 * (k + 1) ≡ (a.from + 33 * k) + 33 = omega arith in
+    let left : a.n - (k + 1) ≡ (a.n - k) - 1 = omega arith in
+    rw (at, left) (goes (λ (at : ℕ). at) 33 (a.from + 33 * k) (a.n - k) (name_ok a.l.now) _ c.loop-k.invariant (omega arith) (sym c.name_ok.ensures ∙ c.if-not-name_ok.false))
 
 pub returns : goal.returns
-returns c = ends (λ (p : ℕ). p) 33 c.loop-left.at c.loop-left.left (name_ok c.args.l.now) _ c.loop-left.invariant.1 (omega arith)
+returns c =
+    let a = c.args in
+    ends (λ (at : ℕ). at) 33 (a.from + 33 * c.loop-k.k) (a.n - c.loop-k.k) (name_ok a.l.now) _ c.loop-k.invariant (omega arith)

@@ -1,5 +1,5 @@
 -- What is left to store gives what the whole does.
-use Prim.Native.Nat.{◌+◌, ◌-◌, ◌≤◌}
+use Prim.Native.Nat.{◌+◌, ◌-◌}
 use Rattle.lent.specs.Bytes.{window}
 use lib.ListN.{length}
 use lib.Seq.{sets}
@@ -7,7 +7,4 @@ use mathlib.Core.Path.{◌≡◌}
 use Rattle.lent.proofs.store.few.Given as goal
 
 abbrev pub invariant-loop-i : goal.invariant-loop-i
-invariant-loop-i l = (l.i ≤ l.n) × (length l.d ≡ length l.initial.d) × (sets l.d (l.to + l.i) (window l.s (l.from + l.i) (l.n - l.i)) ≡ sets l.initial.d l.to (window l.s l.from l.n))
-
-abbrev pub decreases-loop-i : goal.decreases-loop-i
-decreases-loop-i l = l.n - l.i
+invariant-loop-i l = (length l.d ≡ length l.initial.d) × (sets l.d (l.to + l.i) (window l.s (l.from + l.i) (l.n - l.i)) ≡ sets l.initial.d l.to (window l.s l.from l.n))

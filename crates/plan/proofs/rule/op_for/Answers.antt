@@ -5,7 +5,7 @@ use Rattle.plan.proofs.rule.op_for.Goals as goal
 
 pub returns-then-same_kind : goal.returns-then-same_kind
 unfolding step_for
-returns-then-same_kind c = c.copy.ensures ∙ rw (sym c.same_kind.ensures ∙ c.if-same_kind.true)
+returns-then-same_kind c = rw (c.copy.ensures, sym c.same_kind.ensures ∙ c.if-same_kind.true)
 
 pub returns-then-apart : goal.returns-then-apart
 unfolding step_for
@@ -15,7 +15,7 @@ pub returns-then-have-want : goal.returns-then-have-want
 unfolding step_for
 returns-then-have-want c = let other = sym c.same_kind.ensures ∙ c.if-same_kind.false in
     let near = sym c.apart.ensures ∙ c.if-apart.false in
-    c.copy-then-have-want.ensures ∙ rw (other, near, ← c.is_string.ensures, ← c.is_string-2.ensures, c.if-is_string.true, le-leb _ _ c.if-have-want.true)
+    rw (c.copy-then-have-want.ensures, other, near, ← c.is_string.ensures, ← c.is_string-2.ensures, c.if-is_string.true, le-leb _ _ c.if-have-want.true)
 
 pub returns-then-is_string : goal.returns-then-is_string
 unfolding step_for
@@ -27,7 +27,7 @@ pub returns-then-same_sign-have : goal.returns-then-same_sign-have
 unfolding step_for
 returns-then-same_sign-have c = let other = sym c.same_kind.ensures ∙ c.if-same_kind.false in
     let near = sym c.apart.ensures ∙ c.if-apart.false in
-    c.int.ensures ∙ rw (other, near, ← c.is_string.ensures, ← c.is_string-2.ensures, c.if-is_string.false, ← c.same_sign.ensures, c.if-same_sign-have.true)
+    rw (c.int.ensures, other, near, ← c.is_string.ensures, ← c.is_string-2.ensures, c.if-is_string.false, ← c.same_sign.ensures, c.if-same_sign-have.true)
 
 pub returns : goal.returns
 unfolding step_for

@@ -1,17 +1,16 @@
-use Prim.Native.Nat.{◌<◌}
-use Rattle.planner.specs.Select.{chosen}
 use mathlib.Core.Path.{◌∙◌, sym}
+use Rattle.planner.specs.Select.{chosen}
 use Rattle.planner.proofs.select.choose.Goals as goal
+use Rattle.planner.proofs.select.choose.Goals.{in-Some+in_default-of_schema_named, in_default}
 
-pub returns-then-not-wanted : goal.returns-then-not-wanted
+pub returns-in-Some-of_schema_named : goal.returns-in-Some-of_schema_named
 unfolding chosen
-returns-then-not-wanted c = (rw (c.if-not-wanted.true, ← c.record_rtype.ensures) c.first_of.ensures.0, c.first_of.ensures.1)
+returns-in-Some-of_schema_named c = rw (c.in-Some.is, sym c.of_schema_named.ensures ∙ c.in-Some-of_schema_named.is)
 
-pub returns-in-At : goal.returns-in-At
+pub returns : goal.returns
 unfolding chosen
-returns-in-At c = let z : _ < 10000000 = rw c.in-At.is at c.of_schema_named.ensures.1 in
-    (rw (c.if-not-wanted.false, sym c.of_schema_named.ensures.0 ∙ c.in-At.is), z)
-
-pub returns-in-Nowhere : goal.returns-in-Nowhere
-unfolding chosen
-returns-in-Nowhere c = (rw (c.if-not-wanted.false, sym c.of_schema_named.ensures.0 ∙ c.in-Nowhere.is, ← c.record_rtype-in-Nowhere.ensures) c.first_of-in-Nowhere.ensures.0, c.first_of-in-Nowhere.ensures.1)
+returns c =
+    elim c.match-schema.branch [
+      | in-Some+in_default-of_schema_named w ↦ rw (w.in-Some.is, sym w.of_schema_named.ensures ∙ w.in_default-of_schema_named.is, ← c.record_rtype.ensures) c.first_of.ensures.place
+      | in_default w ↦ rw (w.in_default.is, ← c.record_rtype.ensures) c.first_of.ensures.place
+    ]

@@ -1,5 +1,5 @@
 -- What is left to store gives what the whole does.
-use Prim.Native.Nat.{◌*◌, ◌+◌, ◌-◌, ◌≤◌}
+use Prim.Native.Nat.{◌*◌, ◌+◌}
 use Rattle.slot.specs.Slot.{packed_steps, steps_from}
 use lib.ListN.{drop, length, take}
 use lib.Seq.{sets}
@@ -7,8 +7,5 @@ use mathlib.Core.Path.{◌≡◌}
 use Rattle.slot.proofs.pack.put_steps.Given as goal
 
 abbrev pub invariant-loop-k : goal.invariant-loop-k
-invariant-loop-k l = (l.k ≤ l.steps.count) × (l.at ≡ steps_from + 16 * l.k) × (length l.slot ≡ length l.initial.slot)
-    × (sets l.slot l.at (packed_steps (drop l.k (take l.steps.count l.steps.steps))) ≡ sets l.initial.slot steps_from (packed_steps (take l.steps.count l.steps.steps)))
-
-abbrev pub decreases-loop-k : goal.decreases-loop-k
-decreases-loop-k l = l.steps.count - l.k
+invariant-loop-k l = (length l.slot ≡ length l.initial.slot)
+    × (sets l.slot (steps_from + 16 * l.k) (packed_steps (drop l.k (take l.steps.count l.steps.steps))) ≡ sets l.initial.slot steps_from (packed_steps (take l.steps.count l.steps.steps)))

@@ -1,4 +1,3 @@
-use borrow.Author.Rules.{rules}
 use Rattle.tuppenceowl_c.proofs.finding.owl_field_of.Goals as goal
 
 pub returns : goal.returns

@@ -1,4 +1,3 @@
-use borrow.Author.Rules.{rules}
 use Rattle.tuppenceowl_c.proofs.hashing.owl_layout_hash_within.Goals as goal
 
 pub returns : goal.returns

@@ -1,4 +1,0 @@
-use Rattle.catalogue.proofs.kind_of.Goals as goal
-
-pub returns : goal.returns
-returns c = rw (← c.wide8.ensures.0) c.byte_at.ensures

@@ -1,4 +1,0 @@
-use Rattle.coalesce.proofs.inside.Goals as goal
-
-pub returns : goal.returns
-returns c = rw (c.wide16-size.ensures.0, c.wide16.ensures.0, c.wide16-2.ensures.0)

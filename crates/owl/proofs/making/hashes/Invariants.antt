@@ -1,8 +1,0 @@
-use Rattle.std.proofs.Common.{◌≤◌, ◌-◌}
-use Rattle.owl.proofs.making.hashes.Given as goal
-
-abbrev pub invariant-loop-k : goal.invariant-loop-k
-invariant-loop-k g l = l.k ≤ 16
-
-abbrev pub decreases-loop-k : goal.decreases-loop-k
-decreases-loop-k g l = 16 - l.k
