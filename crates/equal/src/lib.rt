@@ -66,7 +66,7 @@ fn named_eq(s: &[u8], f: FieldDef, c: &[u8], g: FieldDef) -> bool
     )
 }
 
-// One of another id costs no more than that test.
+// A field of another id costs no more than that test.
 pub fn field_eq(cat: &[u8], s: &[u8], f: FieldDef, c: &[u8], g: FieldDef) -> bool
     requires { FewFields s.now × FewFields c.now }
     ensures { result ≡ field_eq cat.now s.now f c.now g }

@@ -33,6 +33,14 @@ impl Model for Head {
 }
 
 impl Head {
+    // Of any block, one that has no head there too.
+    pub fn from_place(at: usize) -> Head
+        requires { at < 4000000000 }
+        ensures { result ≡ at }
+    {
+        Head { at }
+    }
+
     pub fn at(self) -> usize
         ensures { (result ≡ self) × (result < 4000000000) }
     {

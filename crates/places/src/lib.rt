@@ -15,7 +15,7 @@ use field::rows::rows_of;
 pub struct Index<'a> {
     pub table: &'a [u8],
     pub firsts: [Option<u8>; 256],
-    ghost holds: { IndexOf (fields_of table.now) firsts },
+    pub ghost holds: { IndexOf (fields_of table.now) firsts },
 }
 
 impl<'a> Index<'a> {

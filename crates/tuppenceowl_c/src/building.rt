@@ -1,4 +1,4 @@
-// The field cursor's calls. A refused call leaves the state, the table and the names as they were.
+// The field cursor's calls. A refused call leaves the state, the table and the names as they were. C lends the three apart, so they stand apart here.
 ghost use Rattle.std.specs.Prelude.{◌≡◌};
 ghost use Rattle.field.specs.Field.{field_at};
 ghost use Rattle.cursor_rules.specs.declared.Times.TheVariants.{One, Array};

@@ -44,6 +44,7 @@ pub extern "C" fn owl_select(
     ensures status { result ≡ selected_status (selected_of cat.now source.now k target.now (schema_of wanted schema)) }
     ensures number { number.new ≡ record_or (selected_of cat.now source.now k target.now (schema_of wanted schema)) number.old }
 {
+    // C has no Option: a flag with a number beside it.
     let schema = if wanted { Some(schema) } else { None };
     tell_selected(planning::select(cat, source, k, target, schema), number)
 }

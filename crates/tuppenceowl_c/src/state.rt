@@ -46,6 +46,7 @@ pub fn tell(answer: Result<FieldCursor, Refusal>, state: &mut State) -> u8
     }
 }
 
+// C has a flag for it.
 fn holder_of(of_struct: bool) -> Holder
     ensures { result ≡ holder_of of_struct }
 {
