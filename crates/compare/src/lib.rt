@@ -3,15 +3,48 @@
 
 pub mod answer;
 
-ghost use Rattle.std.specs.Prelude.{◌≡◌};
+ghost use Rattle.std.specs.Prelude.{◌≡◌, ◌+◌, ◌≤◌, eqb, length};
+ghost use Rattle.field.specs.Field.{field_at};
 ghost use Rattle.layout.specs.Layout.{record_at, FewFields};
 ghost use Rattle.compare.specs.Compare.{base_compatible, verdict_of};
+ghost use Rattle.compare.specs.Parts.{Skips};
 
 use crate::answer::Verdict;
 use field::Holder;
 use field::rows::rows_of;
 use layout::block::Head;
 use layout::{block, find};
+
+fn is_id(t: &[u8], at: usize, id: u16) -> bool
+    requires { at + 2 ≤ length t.now }
+    ensures { result ≡ eqb (field_at t.now at).field_id id }
+{
+    lent::u16_in(t, at) == id
+}
+
+// How many fields of other ids stand in front, but for the last few: four in a turn.
+fn skipped(t: &[u8], id: u16) -> usize
+    ensures { Skips t.now id result }
+{
+    let turns = t.len() / (4 * field::SIZE);
+    for turn in 0..turns {
+        let k = 4 * turn;
+        let at = field::SIZE * k;
+        if is_id(t, at, id) {
+            return k;
+        }
+        if is_id(t, at + 16, id) {
+            return k + 1;
+        }
+        if is_id(t, at + 32, id) {
+            return k + 2;
+        }
+        if is_id(t, at + 48, id) {
+            return k + 3;
+        }
+    }
+    4 * turns
+}
 
 // Left by label from the inner scan as soon as a field has its equal.
 fn is_base_compatible(cat: &[u8], s: &[u8], h: Head, c: &[u8], g: Head) -> bool
@@ -27,7 +60,8 @@ fn is_base_compatible(cat: &[u8], s: &[u8], h: Head, c: &[u8], g: Head) -> bool
         if field::is_padding(cat, want) {
             continue 'next;
         }
-        for have in rows_of(haves) {
+        let front = skipped(haves, want.field_id);
+        for have in rows_of(&haves[field::SIZE * front..]) {
             if equal::field_eq(cat, s, have, c, want) {
                 continue 'next;
             }
