@@ -39,23 +39,8 @@ impl<const N: usize> Bytes<N> {
     }
 }
 
-// Where the word behind this one starts.
-fn past(at: usize, word: &[u8]) -> usize {
-    at.saturating_add(word.len()).saturating_add(1)
-}
-
-// Puts the bytes of each word in hex at half of the word's place in the line, so that no two meet.
-pub fn decode(text: &[u8], room: &mut [u8]) {
-    let mut at = 0;
-    for word in text.split(|b| *b == TAB) {
-        if let Some(rest) = room.get_mut(at / 2..) {
-            let _ = caseline::hex(word, rest);
-        }
-        at = past(at, word);
-    }
-}
-
-// A line, and the bytes of its words once they are decoded.
+// A line, and the bytes of its words once they are decoded: each word's at half of its place in the line, so that no two
+// meet.
 #[derive(Clone, Copy)]
 pub struct Line<'a> {
     pub text: &'a [u8],
@@ -70,7 +55,17 @@ impl<'a> Line<'a> {
     // Where word k starts.
     fn place(self, k: usize) -> usize {
         let words = self.text.split(|b| *b == TAB);
-        words.take(k).fold(0, |at, word| past(at, word))
+        words.take(k).fold(0, |at: usize, word| {
+            at.saturating_add(word.len()).saturating_add(1)
+        })
+    }
+
+    // Decodes a word into the room for a line's bytes, and tells whether it is in hex.
+    pub fn decode(self, k: usize, room: &mut [u8]) -> bool {
+        let Some(rest) = room.get_mut(self.place(k) / 2..) else {
+            return false;
+        };
+        caseline::hex(self.word(k), rest).is_some()
     }
 
     // The bytes of a word in hex.

@@ -37,10 +37,9 @@ fn answered(
         return rt.write_all(b"\n");
     }
     let line = Line { text, decoded: &[] };
-    match Word::of(line) {
+    match Word::of(line, room) {
         None => println!(rt; "?"),
         Some(word) => {
-            given::decode(text, room);
             let line = Line {
                 text,
                 decoded: room,
