@@ -3,11 +3,15 @@ use crate::answer::Answer;
 use crate::given::Line;
 use crate::kept::Kept;
 use crate::plans::Slot;
-use crate::upgrades::Target;
 use crate::words::Word;
 use crate::{hashes, layouts, plans, texts, upgrades, verdicts};
+use arrayvec::ArrayString;
 use caseline::put::Hex;
-use std::io;
+use std::fmt::Write;
+use std::{fmt, io};
+
+// Where an answer is put together: more than the longest.
+pub type Out = ArrayString<16384>;
 
 pub fn asked(word: Word, line: Line, kept: &mut Kept) -> Answer {
     match word {
@@ -45,31 +49,56 @@ pub fn asked(word: Word, line: Line, kept: &mut Kept) -> Answer {
     }
 }
 
-// The target behind the answer, in the length that word k gives it.
-fn say_target(rt: &impl Print, target: &Target, line: Line, k: usize) -> io::Result<()> {
-    let bytes = Hex(lent::part(target, 0, line.word(k).len() / 2));
-    println!(rt; " {bytes}")
+// What a line is answered: the answer, and behind it or in its place the bytes that a call has made.
+#[derive(Clone, Copy)]
+pub struct Said<'a> {
+    pub word: Word,
+    pub line: Line<'a>,
+    pub kept: &'a Kept,
+    pub answer: Answer,
 }
 
-// The answer, and behind it or in its place the bytes that a call has made.
-pub fn say(rt: &impl Print, word: Word, line: Line, kept: &Kept, answer: Answer) -> io::Result<()> {
-    match answer {
-        Ok(_) if word == Word::Plan => {
-            let slot = Slot(lent::part(&kept.plans, line.number(6), line.number(7)));
-            print!(rt; "{slot}")?;
-        }
-        Ok(value) => print!(rt; "{value}")?,
-        Err(unanswered) => print!(rt; "{unanswered}")?,
+impl Said<'_> {
+    // The target, in the length that word k gives it.
+    fn target(&self, k: usize) -> Hex<'_> {
+        Hex(lent::part(&self.kept.target, 0, self.line.word(k).len() / 2))
     }
-    match word {
-        Word::Built => {
-            let fields = line.number(1);
-            let rows = kept.built.rows(fields);
-            let names = kept.built.names(fields);
-            println!(rt; " {rows} {names}")
+
+    fn write_answer<W: fmt::Write>(&self, f: &mut fmt::Formatter<W>) -> fmt::Result {
+        match self.answer {
+            Ok(_) if self.word == Word::Plan => {
+                let line = self.line;
+                let slot = Slot(lent::part(&self.kept.plans, line.number(6), line.number(7)));
+                write!(f, "{slot}")
+            }
+            Ok(value) => write!(f, "{value}"),
+            Err(unanswered) => write!(f, "{unanswered}"),
         }
-        Word::Apply => say_target(rt, &kept.target, line, 5),
-        Word::Upgrade => say_target(rt, &kept.target, line, 8),
-        _ => rt.println(""),
+    }
+}
+
+impl fmt::Display for Said<'_> {
+    fn fmt<W: fmt::Write>(&self, f: &mut fmt::Formatter<W>) -> fmt::Result {
+        self.write_answer(f)?;
+        match self.word {
+            Word::Built => {
+                let fields = self.line.number(1);
+                let rows = self.kept.built.rows(fields);
+                let names = self.kept.built.names(fields);
+                write!(f, " {rows} {names}")
+            }
+            Word::Apply => write!(f, " {}", self.target(5)),
+            Word::Upgrade => write!(f, " {}", self.target(8)),
+            _ => Ok(()),
+        }
+    }
+}
+
+// Writes a line by one call, but for one longer than any answer.
+pub fn say(rt: &impl Print, said: Said, out: &mut Out) -> io::Result<()> {
+    out.clear();
+    match writeln!(out, "{said}") {
+        Ok(()) => rt.write_all(out.as_str().as_bytes()),
+        Err(_) => println!(rt; "{said}"),
     }
 }

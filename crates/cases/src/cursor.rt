@@ -1,9 +1,8 @@
 // The words of the field cursor.
 use crate::answer::{Answer, Unanswered, Value};
 use crate::given;
-use crate::given::{Bytes, Line};
+use crate::given::Line;
 use crate::layouts::Last;
-use crate::words::HEX_SIZE;
 use caseline::put::Hex;
 use cursor_rules::{FieldCursor, Times};
 use field::FieldDef;
@@ -23,17 +22,16 @@ pub struct Built {
 }
 
 // A field that a line gives: of its 16 bytes each call takes what it needs.
-#[derive(Drop)]
-struct Given {
+#[derive(Clone, Copy)]
+struct Given<'a> {
     def: FieldDef,
-    name: Bytes<HEX_SIZE>,
+    name: &'a [u8],
 }
 
-impl Given {
-    fn of(line: Line) -> Self {
-        let bytes = line.bytes::<{ field::SIZE }>(1);
+impl<'a> Given<'a> {
+    fn of(line: Line<'a>) -> Self {
         Given {
-            def: field::field_at(bytes.as_slice(), 0),
+            def: field::field_at(line.bytes(1), 0),
             name: line.bytes(2),
         }
     }
@@ -97,7 +95,7 @@ impl Built {
             def.size,
             def.flags,
             def.def_index,
-            name.as_slice(),
+            name,
         );
         self.moved(placed)
     }
@@ -113,7 +111,7 @@ impl Built {
             def.type_id,
             def.size,
             def.flags,
-            name.as_slice(),
+            name,
         );
         self.moved(placed)
     }
@@ -127,12 +125,12 @@ impl Built {
             self.cursor,
             def,
             def.def_index,
-            name.as_slice(),
+            name,
         );
         self.moved(placed)
     }
 
-    fn nest(&mut self, given: &Given, last: &Last, times: Times) -> Answer {
+    fn nest(&mut self, given: Given, last: &Last, times: Times) -> Answer {
         let placed = building::nested(
             last.catalogue(),
             last.layout(),
@@ -142,19 +140,19 @@ impl Built {
             given.def.field_id,
             given.def.def_index,
             times,
-            given.name.as_slice(),
+            given.name,
         );
         self.moved(placed)
     }
 
     pub fn nested(&mut self, line: Line, last: &Last) -> Answer {
-        self.nest(&Given::of(line), last, Times::One)
+        self.nest(Given::of(line), last, Times::One)
     }
 
     // The size tells how often the struct stands in the array.
     pub fn nested_array(&mut self, line: Line, last: &Last) -> Answer {
         let given = Given::of(line);
-        self.nest(&given, last, Times::Array(given.def.size))
+        self.nest(given, last, Times::Array(given.def.size))
     }
 
     pub fn at(&mut self, line: Line, last: &Last) -> Answer {
@@ -171,9 +169,8 @@ impl Built {
     }
 
     pub fn finish(&mut self, line: Line, last: &Last) -> Answer {
-        let bytes = line.bytes::<HEX_SIZE>(1);
         let mut room = [0; given::MOST_IDS];
-        let ids = given::ids(bytes.as_slice(), &mut room);
+        let ids = given::ids(line.bytes(1), &mut room);
         let cat = last.catalogue();
         let placed = building::finish(cat, &mut self.rows, &mut self.names, self.cursor, ids);
         self.moved(placed)

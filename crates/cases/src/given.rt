@@ -1,10 +1,16 @@
 // What a line gives, word by word, once its shape is known to be right.
-ghost use Rattle.std.specs.Prelude.{◌≤◌, length};
+ghost use Rattle.std.specs.Prelude.{◌≡◌, ◌/◌, ◌≤◌, length, min};
 
+use caseline::input;
 use field::Holder;
 
-// The bytes of a word in hex.
-#[derive(Clone, Copy)]
+const TAB: u8 = b'\t';
+
+// The most bytes that the words of a line name.
+pub const DECODED_SIZE: usize = input::ROOM_SIZE / 2;
+
+// Bytes that are kept from line to line.
+#[derive(Drop)]
 pub struct Bytes<const N: usize> {
     room: [u8; N],
     length: usize,
@@ -12,11 +18,18 @@ pub struct Bytes<const N: usize> {
 }
 
 impl<const N: usize> Bytes<N> {
-    // None where there are more than N, or the word is not in hex.
-    pub fn of(word: &[u8]) -> Self {
-        let mut room = [0; N];
-        let length = caseline::hex(word, &mut room).unwrap_or(0);
-        Bytes { room, length }
+    pub fn new() -> Self {
+        Bytes {
+            room: [0; N],
+            length: 0,
+        }
+    }
+
+    // Takes these in place of those it has: as many as there is room for.
+    pub fn keep(&mut self, bytes: &[u8]) {
+        let length = bytes.len().min(N);
+        self.room[..length].copy_from_slice(&bytes[..length]);
+        self.length = length;
     }
 
     pub fn as_slice(&self) -> &[u8]
@@ -26,9 +39,12 @@ impl<const N: usize> Bytes<N> {
     }
 }
 
+// A line, and the bytes of its words once they are decoded: each word's at half of its place in the line, so that no two
+// meet.
 #[derive(Clone, Copy)]
 pub struct Line<'a> {
     pub text: &'a [u8],
+    pub decoded: &'a [u8],
 }
 
 impl<'a> Line<'a> {
@@ -36,8 +52,25 @@ impl<'a> Line<'a> {
         caseline::word(self.text, k)
     }
 
-    pub fn bytes<const N: usize>(self, k: usize) -> Bytes<N> {
-        Bytes::of(self.word(k))
+    // Where word k starts.
+    fn place(self, k: usize) -> usize {
+        let words = self.text.split(|b| *b == TAB);
+        words.take(k).fold(0, |at: usize, word| {
+            at.saturating_add(word.len()).saturating_add(1)
+        })
+    }
+
+    // Decodes a word into the room for a line's bytes, and tells whether it is in hex.
+    pub fn decode(self, k: usize, room: &mut [u8]) -> bool {
+        let Some(rest) = room.get_mut(self.place(k) / 2..) else {
+            return false;
+        };
+        caseline::hex(self.word(k), rest).is_some()
+    }
+
+    // The bytes of a word in hex.
+    pub fn bytes(self, k: usize) -> &'a [u8] {
+        lent::part(self.decoded, self.place(k) / 2, self.word(k).len() / 2)
     }
 
     pub fn number(self, k: usize) -> usize {
@@ -71,7 +104,9 @@ impl<'a> Line<'a> {
 pub const MOST_IDS: usize = 64;
 
 // Puts the ids of two bytes each at the start: as many as the bytes have, and as there is room for.
-pub fn ids<'a>(bytes: &[u8], room: &'a mut [u16]) -> &'a [u16] {
+pub fn ids<'a>(bytes: &[u8], room: &'a mut [u16]) -> &'a [u16]
+    ensures { length result.now ≡ min (length room.old) (length bytes.now / 2) }
+{
     let n = room.len().min(bytes.len() / 2);
     for (id, pair) in room.iter_mut().zip(bytes.chunks_exact(2)) {
         *id = u16::from_le_bytes([pair[0], pair[1]]);

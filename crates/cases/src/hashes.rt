@@ -2,12 +2,10 @@
 use crate::answer::{Answer, Value};
 use crate::given::Line;
 use crate::layouts::Last;
-use crate::words::HEX_SIZE;
 use tuppenceowl::hashing;
 
 pub fn sum(line: Line) -> Answer {
-    let bytes = line.bytes::<HEX_SIZE>(1);
-    Ok(Value::Sum(hashing::sum(bytes.as_slice())))
+    Ok(Value::Sum(hashing::sum(line.bytes(1))))
 }
 
 // That of a part of the slots.

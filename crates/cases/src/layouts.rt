@@ -13,8 +13,8 @@ pub struct Last {
 impl Last {
     pub fn new() -> Self {
         Last {
-            catalogue: Bytes::of(b""),
-            layout: Bytes::of(b""),
+            catalogue: Bytes::new(),
+            layout: Bytes::new(),
         }
     }
 
@@ -27,13 +27,13 @@ impl Last {
     }
 
     pub fn keep_catalogue(&mut self, line: Line) -> Answer {
-        self.catalogue = line.bytes(1);
+        self.catalogue.keep(line.bytes(1));
         tuppenceowl::check_catalogue(self.catalogue())?;
         Ok(Value::Fine)
     }
 
     pub fn keep_layout(&mut self, line: Line) -> Answer {
-        self.layout = line.bytes(1);
+        self.layout.keep(line.bytes(1));
         tuppenceowl::admit(self.catalogue(), self.layout())?;
         Ok(Value::Fine)
     }
@@ -45,14 +45,12 @@ pub fn size(line: Line, last: &Last) -> Answer {
 }
 
 pub fn window(line: Line) -> Answer {
-    let bytes = line.bytes::<HEX_SIZE>(1);
-    let window = tuppenceowl::window(bytes.as_slice(), line.number(2), line.number(3));
+    let window = tuppenceowl::window(line.bytes(1), line.number(2), line.number(3));
     let (start, end) = window.ok_or(Unanswered::Nothing)?;
     Ok(Value::Pair(start, end))
 }
 
 pub fn field(line: Line) -> Answer {
-    let table = line.bytes::<HEX_SIZE>(1);
-    let found = tuppenceowl::field_of(table.as_slice(), line.number(2))?;
+    let found = tuppenceowl::field_of(line.bytes(1), line.number(2))?;
     Ok(Value::Field(found.ok_or(Unanswered::Nothing)?))
 }

@@ -14,6 +14,7 @@ mod upgrades;
 mod verdicts;
 mod words;
 
+use asks::{Out, Said};
 use caseline::input;
 use cursor::Built;
 use given::Line;
@@ -23,18 +24,34 @@ use std::io;
 use words::Word;
 
 // Writes the answer to a line, and keeps what the line asks to keep.
-fn answered(rt: &impl Print, text: &[u8], kept: &mut Kept) -> io::Result<()> {
+fn answered(
+    rt: &impl Print,
+    text: &[u8],
+    kept: &mut Kept,
+    room: &mut [u8],
+    out: &mut Out,
+) -> io::Result<()> {
     // An empty line and a title are written as they are.
     if text.first().is_none_or(|b| *b == b'#') {
         rt.write_all(text)?;
         return rt.write_all(b"\n");
     }
-    let line = Line { text };
-    match Word::of(line) {
+    let line = Line { text, decoded: &[] };
+    match Word::of(line, room) {
         None => println!(rt; "?"),
         Some(word) => {
+            let line = Line {
+                text,
+                decoded: room,
+            };
             let answer = asks::asked(word, line, kept);
-            asks::say(rt, word, line, kept, answer)
+            let said = Said {
+                word,
+                line,
+                kept,
+                answer,
+            };
+            asks::say(rt, said, out)
         }
     }
 }
@@ -46,5 +63,9 @@ fn main(rt: HostRuntime) -> io::Result<()> {
         plans: [0; plans::PLANS_SIZE],
         target: [0; words::TARGET_SIZE],
     };
-    input::each_line(&mut rt.reader(), |text| answered(&rt, text, &mut kept))
+    let mut room = [0; given::DECODED_SIZE];
+    let mut out = Out::new();
+    input::each_line(&mut rt.reader(), |text| {
+        answered(&rt, text, &mut kept, &mut room, &mut out)
+    })
 }

@@ -3,7 +3,6 @@ use crate::answer::{Answer, Unanswered, Value};
 use crate::given;
 use crate::given::Line;
 use crate::layouts::Last;
-use crate::words::{BODY_SIZE, HEX_SIZE, MARKS_SIZE};
 use caseline::put::Hex;
 use std::fmt;
 use tuppenceowl::{hashing, planning};
@@ -14,8 +13,7 @@ pub const PLANS_SIZE: usize = 24640;
 pub type Plans = [u8; PLANS_SIZE];
 
 pub fn put(line: Line, plans: &mut Plans) -> Answer {
-    let bytes = line.bytes::<HEX_SIZE>(2);
-    given::store(bytes.as_slice(), plans, line.number(1)).ok_or(Unanswered::Malformed)?;
+    given::store(line.bytes(2), plans, line.number(1)).ok_or(Unanswered::Malformed)?;
     Ok(Value::Fine)
 }
 
@@ -25,18 +23,15 @@ pub fn plan(line: Line, last: &Last, plans: &mut Plans) -> Answer {
     if room > PLANS_SIZE || at > PLANS_SIZE - room {
         return Err(Unanswered::Malformed);
     }
-    let body = line.bytes::<BODY_SIZE>(4);
-    let marks = line.bytes::<MARKS_SIZE>(5);
-    let target = line.bytes::<HEX_SIZE>(8);
     planning::plan(
         last.catalogue(),
         last.layout(),
         line.number(1),
-        target.as_slice(),
+        line.bytes(8),
         line.number(2),
         line.number(3),
-        body.as_slice(),
-        marks.as_slice(),
+        line.bytes(4),
+        line.bytes(5),
         &mut plans[at..at + room],
     )?;
     Ok(Value::Fine)

@@ -2,7 +2,7 @@
 use crate::answer::{Answer, Unanswered, Value};
 use crate::given;
 use crate::given::Line;
-use crate::words::{HEX_SIZE, ROOM_SIZE, STEPS_SIZE};
+use crate::words::{HEX_SIZE, ROOM_SIZE};
 use tuppenceowl::{hashing, texting};
 
 // What stands in lent bytes before a call.
@@ -10,12 +10,8 @@ const FOUND: u8 = 170;
 
 // A slot: zeros, with what is given for its head and steps, and for its body.
 fn fill(line: Line, plan: &mut [u8]) -> Option<()> {
-    given::store(line.bytes::<HEX_SIZE>(3).as_slice(), plan, 0)?;
-    given::store(
-        line.bytes::<STEPS_SIZE>(4).as_slice(),
-        plan,
-        slot::BODY_FROM,
-    )
+    given::store(line.bytes(3), plan, 0)?;
+    given::store(line.bytes(4), plan, slot::BODY_FROM)
 }
 
 fn written(plan: &[u8], text: &mut [u8]) -> Answer {
@@ -39,5 +35,5 @@ pub fn write_plan(line: Line) -> Answer {
 pub fn read_plan(line: Line) -> Answer {
     let mut plan = [FOUND; ROOM_SIZE];
     let room = line.number(1).min(ROOM_SIZE);
-    read(line.bytes::<HEX_SIZE>(2).as_slice(), &mut plan[..room])
+    read(line.bytes(2), &mut plan[..room])
 }

@@ -3,34 +3,30 @@ use crate::answer::{Answer, Value};
 use crate::given;
 use crate::given::Line;
 use crate::plans::Plans;
-use crate::words::{HEX_SIZE, TARGET_SIZE};
+use crate::words::TARGET_SIZE;
 use tuppenceowl::upgrading;
 
 pub type Target = [u8; TARGET_SIZE];
 
 // The first bytes of the target, as word k gives them.
 fn set<'a>(target: &'a mut Target, line: Line, k: usize) -> &'a mut [u8] {
-    let given = line.bytes::<TARGET_SIZE>(k);
-    let given = given.as_slice();
-    let n = given.len();
-    target[..n].copy_from_slice(given);
+    let given = line.bytes(k);
+    let n = given.len().min(TARGET_SIZE);
+    target[..n].copy_from_slice(&given[..n]);
     &mut target[..n]
 }
 
 pub fn apply(line: Line, plans: &Plans, target: &mut Target) -> Answer {
     let slot = lent::part(plans, line.number(1), line.number(2));
-    let record = line.bytes::<HEX_SIZE>(3);
     let target = set(target, line, 5);
-    let upgraded = upgrading::apply(slot, record.as_slice(), line.number(4), target)?;
+    let upgraded = upgrading::apply(slot, line.bytes(3), line.number(4), target)?;
     Ok(Value::Pair(upgraded.rtype as usize, upgraded.size))
 }
 
 pub fn upgrade(line: Line, plans: &Plans, target: &mut Target) -> Answer {
     let slots = lent::part(plans, 0, line.number(1));
-    let listed = line.bytes::<HEX_SIZE>(2);
     let mut room = [0; given::MOST_IDS];
-    let ids = given::ids(listed.as_slice(), &mut room);
-    let record = line.bytes::<HEX_SIZE>(6);
+    let ids = given::ids(line.bytes(2), &mut room);
     let target = set(target, line, 8);
     let upgraded = upgrading::upgrade(
         slots,
@@ -38,7 +34,7 @@ pub fn upgrade(line: Line, plans: &Plans, target: &mut Target) -> Answer {
         line.short(3),
         line.number(4),
         line.number(5),
-        record.as_slice(),
+        line.bytes(6),
         line.number(7),
         target,
     )?;

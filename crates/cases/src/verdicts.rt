@@ -2,7 +2,6 @@
 use crate::answer::{Answer, Unanswered, Value};
 use crate::given::Line;
 use crate::layouts::Last;
-use crate::words::HEX_SIZE;
 use compare::answer::Verdict;
 use tuppenceowl::{comparing, planning};
 
@@ -17,15 +16,13 @@ impl From<Verdict> for Value {
 
 pub fn verdict(line: Line, last: &Last) -> Answer {
     let cat = last.catalogue();
-    let compiled = line.bytes::<HEX_SIZE>(2);
-    let verdict = comparing::verdict(cat, last.layout(), line.number(1), compiled.as_slice())?;
+    let verdict = comparing::verdict(cat, last.layout(), line.number(1), line.bytes(2))?;
     Ok(Value::from(verdict))
 }
 
 pub fn verdict_of(line: Line, last: &Last) -> Answer {
     let cat = last.catalogue();
-    let compiled = line.bytes::<HEX_SIZE>(2);
-    let verdict = comparing::verdict_of(cat, last.layout(), line.short(1), compiled.as_slice())?;
+    let verdict = comparing::verdict_of(cat, last.layout(), line.short(1), line.bytes(2))?;
     Ok(Value::from(verdict))
 }
 
@@ -37,18 +34,16 @@ pub fn by_id(line: Line, last: &Last) -> Answer {
 
 pub fn by_name(line: Line, last: &Last) -> Answer {
     let cat = last.catalogue();
-    let name = line.bytes::<HEX_SIZE>(2);
-    let found = comparing::field_by_name(cat, last.layout(), line.short(1), name.as_slice())?;
+    let found = comparing::field_by_name(cat, last.layout(), line.short(1), line.bytes(2))?;
     Ok(Value::Field(found.ok_or(Unanswered::Nothing)?))
 }
 
 pub fn select(line: Line, last: &Last) -> Answer {
-    let target = line.bytes::<HEX_SIZE>(3);
     let selected = planning::select(
         last.catalogue(),
         last.layout(),
         line.number(1),
-        target.as_slice(),
+        line.bytes(3),
         line.schema(2),
     )?;
     Ok(selected.map_or(Value::Unplanned, Value::Size))

@@ -91,11 +91,11 @@ fn is_at_most(word: &[u8], most: usize) -> bool {
 }
 
 impl Kind {
-    fn takes(self, line: Line, k: usize) -> bool {
+    fn takes(self, line: Line, k: usize, room: &mut [u8]) -> bool {
         let word = line.word(k);
         match self {
             Kind::Number(most) => is_at_most(word, most),
-            Kind::Hex(most) => caseline::is_hex(word) && word.len() / 2 <= most,
+            Kind::Hex(most) => word.len() / 2 <= most && line.decode(k, room),
             Kind::Schema => word == b"-".as_slice() || is_at_most(word, MOST_SHORT),
             Kind::Holder => line.holder(k).is_some(),
             Kind::Rest => true,
@@ -103,14 +103,14 @@ impl Kind {
     }
 }
 
-// Whether these kinds, and nothing else, stand behind the line's first word.
-fn is_shaped(line: Line, kinds: &[Kind]) -> bool {
+// Whether these kinds, and nothing else, stand behind the line's first word. Those in hex are decoded.
+fn is_shaped(line: Line, room: &mut [u8], kinds: &[Kind]) -> bool {
     let is_open = kinds.contains(&Kind::Rest);
     (is_open || caseline::words(line.text) == kinds.len() + 1)
         && kinds
             .iter()
             .enumerate()
-            .all(|(k, kind)| kind.takes(line, k + 1))
+            .all(|(k, kind)| kind.takes(line, k + 1, room))
 }
 
 impl Word {
@@ -152,40 +152,42 @@ impl Word {
     }
 
     // Whether what it takes stands behind it, and nothing else.
-    fn fits(self, line: Line) -> bool {
+    fn fits(self, line: Line, room: &mut [u8]) -> bool {
         match self {
             Word::Scalar | Word::String | Word::Like | Word::Nested | Word::NestedArray => {
-                is_shaped(line, &[FIELD, HEX])
+                is_shaped(line, room, &[FIELD, HEX])
             }
-            Word::At | Word::Size | Word::Hash | Word::Boot => is_shaped(line, &[NUMBER]),
-            Word::FinishBase => is_shaped(line, &[]),
-            Word::Finish | Word::Layout | Word::Sum => is_shaped(line, &[HEX]),
+            Word::At | Word::Size | Word::Hash | Word::Boot => is_shaped(line, room, &[NUMBER]),
+            Word::FinishBase => is_shaped(line, room, &[]),
+            Word::Finish | Word::Layout | Word::Sum => is_shaped(line, room, &[HEX]),
             Word::Plan => is_shaped(
                 line,
+                room,
                 &[NUMBER, NUMBER, NUMBER, BODY, MARKS, NUMBER, NUMBER, HEX],
             ),
-            Word::Put | Word::Verdict => is_shaped(line, &[NUMBER, HEX]),
-            Word::Apply => is_shaped(line, &[NUMBER, NUMBER, HEX, NUMBER, TARGET]),
+            Word::Put | Word::Verdict => is_shaped(line, room, &[NUMBER, HEX]),
+            Word::Apply => is_shaped(line, room, &[NUMBER, NUMBER, HEX, NUMBER, TARGET]),
             Word::Upgrade => is_shaped(
                 line,
+                room,
                 &[NUMBER, HEX, SHORT, NUMBER, NUMBER, HEX, NUMBER, TARGET],
             ),
-            Word::Catalogue => is_shaped(line, &[Kind::Hex(CATALOGUE_SIZE)]),
-            Word::Window => is_shaped(line, &[HEX, NUMBER, NUMBER]),
-            Word::Field => is_shaped(line, &[HEX, NUMBER]),
-            Word::Slots | Word::Visits => is_shaped(line, &[NUMBER, NUMBER]),
-            Word::VerdictOf | Word::ByName => is_shaped(line, &[SHORT, HEX]),
-            Word::ById => is_shaped(line, &[SHORT, SHORT]),
-            Word::Select => is_shaped(line, &[NUMBER, Kind::Schema, HEX]),
-            Word::Begin => is_shaped(line, &[Kind::Holder, Kind::Rest]),
-            Word::Built => is_shaped(line, &[Kind::Number(limits::MAX_FIELDS), Kind::Rest]),
-            Word::WritePlan => is_shaped(line, &[ROOM, NUMBER, HEX, Kind::Hex(STEPS_SIZE)]),
-            Word::ReadPlan => is_shaped(line, &[ROOM, HEX]),
+            Word::Catalogue => is_shaped(line, room, &[Kind::Hex(CATALOGUE_SIZE)]),
+            Word::Window => is_shaped(line, room, &[HEX, NUMBER, NUMBER]),
+            Word::Field => is_shaped(line, room, &[HEX, NUMBER]),
+            Word::Slots | Word::Visits => is_shaped(line, room, &[NUMBER, NUMBER]),
+            Word::VerdictOf | Word::ByName => is_shaped(line, room, &[SHORT, HEX]),
+            Word::ById => is_shaped(line, room, &[SHORT, SHORT]),
+            Word::Select => is_shaped(line, room, &[NUMBER, Kind::Schema, HEX]),
+            Word::Begin => is_shaped(line, room, &[Kind::Holder, Kind::Rest]),
+            Word::Built => is_shaped(line, room, &[Kind::Number(limits::MAX_FIELDS), Kind::Rest]),
+            Word::WritePlan => is_shaped(line, room, &[ROOM, NUMBER, HEX, Kind::Hex(STEPS_SIZE)]),
+            Word::ReadPlan => is_shaped(line, room, &[ROOM, HEX]),
         }
     }
 
     // Which word a line has; one with something else behind it is malformed, and none.
-    pub fn of(line: Line) -> Option<Self> {
-        Word::named(line.word(0)).filter(|word| word.fits(line))
+    pub fn of(line: Line, room: &mut [u8]) -> Option<Self> {
+        Word::named(line.word(0)).filter(|word| word.fits(line, room))
     }
 }
