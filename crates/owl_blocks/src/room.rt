@@ -32,7 +32,7 @@ pub struct Defaults {
     pub line: usize,
 }
 
-#[derive(Drop)]
+#[derive(Clone, Copy)]
 pub struct Room {
     pub catalogue: [u8; types::CATALOGUE],
     pub source: Block,
