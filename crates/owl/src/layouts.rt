@@ -52,7 +52,8 @@ fn count(text: &[u8], item: Item) -> u8 {
     u8::try_from(found).unwrap_or(u8::MAX)
 }
 
-// The room for the text's layouts.
+// The room for the text's layouts. Made where it stays, for it is large to move.
+#[inline(always)]
 pub fn room_of(text: &[u8]) -> Room {
     let sources = count(text, Item::Record(Side::Source));
     let targets = count(text, Item::Record(Side::Target));
