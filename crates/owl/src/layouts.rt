@@ -30,10 +30,9 @@ pub struct Header {
     pub line: usize,
 }
 
-// What is read so far.
+// What is read so far, besides what is in the room.
 #[derive(Drop)]
 pub struct Layouts<'a> {
-    pub room: Room,
     // How many lines.
     pub lines: usize,
     open: Option<Open<'a>>,
@@ -53,13 +52,18 @@ fn count(text: &[u8], item: Item) -> u8 {
     u8::try_from(found).unwrap_or(u8::MAX)
 }
 
-// The text's layouts, or the first flaw in it.
-pub fn read(text: &[u8]) -> Result<Layouts<'_>, Flaw<'_>> {
+// The room for the text's layouts. Made where it stays, for it is large to move.
+#[inline(always)]
+pub fn room_of(text: &[u8]) -> Room {
     let sources = count(text, Item::Record(Side::Source));
     let targets = count(text, Item::Record(Side::Target));
     let structs = count(text, Item::Struct);
+    Room::new(sources, targets, structs)
+}
+
+// The text's layouts, or the first flaw in it. The room is the text's own.
+pub fn read<'a>(text: &'a [u8], room: &mut Room) -> Result<Layouts<'a>, Flaw<'a>> {
     let mut layouts = Layouts {
-        room: Room::new(sources, targets, structs),
         lines: 0,
         open: None,
         header: None,
@@ -70,14 +74,14 @@ pub fn read(text: &[u8]) -> Result<Layouts<'_>, Flaw<'_>> {
         let number = layouts.lines.saturating_add(1);
         layouts.lines = number;
         let content = line.strip_suffix(&[NEWLINE]).unwrap_or(line);
-        layouts.take(Line::new(number, content))?;
+        layouts.take(Line::new(number, content), room)?;
     }
-    layouts.close()?;
+    layouts.close(room)?;
     Ok(layouts)
 }
 
 impl<'a> Layouts<'a> {
-    fn take(&mut self, line: Line<'a>) -> Result<(), Flaw<'a>> {
+    fn take(&mut self, line: Line<'a>, room: &mut Room) -> Result<(), Flaw<'a>> {
         let Some(item) = line.item() else {
             // A line that has no item is blank.
             return match line.words() {
@@ -87,50 +91,49 @@ impl<'a> Layouts<'a> {
         };
         match item {
             Item::Record(side) => {
-                self.close()?;
-                self.open = Some(whole::open_record(line, side, &mut self.room)?);
+                self.close(room)?;
+                self.open = Some(whole::open_record(line, side, room)?);
             }
             Item::Struct => {
-                self.close()?;
-                self.open = Some(whole::open_struct(line, &mut self.room)?);
+                self.close(room)?;
+                self.open = Some(whole::open_struct(line, room)?);
             }
             Item::Plan => {
-                self.close()?;
-                self.chosen = Some(settings::plan(line, &self.room)?);
+                self.close(room)?;
+                self.chosen = Some(settings::plan(line, room)?);
             }
-            Item::Part(part) => self.take_part(line, part)?,
+            Item::Part(part) => self.take_part(line, part, room)?,
             Item::Header => self.header = Some(settings::header(line)?),
             Item::Wanted => self.wanted = Some(line.only_number()?),
-            Item::Catalogue => self.take_catalogue(line)?,
+            Item::Catalogue => self.take_catalogue(line, room)?,
         }
         Ok(())
     }
 
-    fn take_part(&mut self, line: Line<'a>, part: Part) -> Result<(), Flaw<'a>> {
+    fn take_part(&mut self, line: Line<'a>, part: Part, room: &mut Room) -> Result<(), Flaw<'a>> {
         let Some(open) = &mut self.open else {
             return Err(line.flaw(0, Fault::NotOpen));
         };
         match part {
-            Part::Field => fields::take(line, &mut self.room, open),
-            Part::At => open.at(line, &self.room.catalogue),
-            Part::Base => open.base(line, &self.room.catalogue),
+            Part::Field => fields::take(line, room, open),
+            Part::At => open.at(line, &room.catalogue),
+            Part::Base => open.base(line, &room.catalogue),
         }
     }
 
     // It stands before all that it decides.
-    fn take_catalogue(&mut self, line: Line<'a>) -> Result<(), Flaw<'a>> {
-        let room = &self.room;
+    fn take_catalogue(&self, line: Line<'a>, room: &mut Room) -> Result<(), Flaw<'a>> {
         let closed = room.source.records | room.target.records | room.source.structs;
         if self.open.is_some() | (closed != 0) {
             return Err(line.flaw(0, Fault::Late));
         }
-        settings::catalogue(line, &mut self.room.catalogue)
+        settings::catalogue(line, &mut room.catalogue)
     }
 
     // Finishes what is open.
-    fn close(&mut self) -> Result<(), Flaw<'a>> {
+    fn close(&mut self, room: &mut Room) -> Result<(), Flaw<'a>> {
         match self.open.take() {
-            Some(open) => open.close(&mut self.room),
+            Some(open) => open.close(room),
             None => Ok(()),
         }
     }

@@ -41,18 +41,20 @@ impl Command {
 }
 
 fn plan<R: Env + Files + Print, E: Print>(console: &Console<'_, R, E>) -> io::Result<()> {
-    let Some(text) = console.load_second(3)? else {
+    let mut room = [0; files::ROOM];
+    let Some(text) = console.load_second(3, &mut room)? else {
         return Ok(());
     };
-    match making::plan_of(console, text.as_slice())? {
+    match making::plan_of(console, text)? {
         Some(slot) => making::say_plan(console, &slot),
         None => Ok(()),
     }
 }
 
 fn hash<R: Env + Files + Print, E: Print>(console: &Console<'_, R, E>) -> io::Result<()> {
-    match console.load_second(3)? {
-        Some(text) => making::say_hashes(console, text.as_slice()),
+    let mut room = [0; files::ROOM];
+    match console.load_second(3, &mut room)? {
+        Some(text) => making::say_hashes(console, text),
         None => Ok(()),
     }
 }

@@ -30,11 +30,10 @@ enum Unplanned {
 // ---- the plan
 
 // The records that the text names, or its first source record and the one that is selected.
-fn chosen(layouts: &Layouts<'_>) -> Result<Chosen, Unplanned> {
+fn chosen(layouts: &Layouts<'_>, room: &Room) -> Result<Chosen, Unplanned> {
     if let Some(chosen) = layouts.chosen {
         return Ok(chosen);
     }
-    let room = &layouts.room;
     let source = 0;
     match planning::select(
         &room.catalogue,
@@ -58,9 +57,8 @@ fn body_size(room: &Room, target: usize, header: usize) -> usize {
     }
 }
 
-fn plan(layouts: &Layouts<'_>) -> Result<Slot, Unplanned> {
-    let Chosen { source, target } = chosen(layouts)?;
-    let room = &layouts.room;
+fn plan(layouts: &Layouts<'_>, room: &Room) -> Result<Slot, Unplanned> {
+    let Chosen { source, target } = chosen(layouts, room)?;
     let header = layouts
         .header
         .map_or(HEADER, |header| usize::from(header.bytes));
@@ -90,12 +88,11 @@ fn plan(layouts: &Layouts<'_>) -> Result<Slot, Unplanned> {
 // ---- why there is none
 
 // The line of the item that a refusal concerns: the header's, or else the target's; where there is none, behind the text.
-fn line_of(layouts: &Layouts<'_>, refusal: Refusal, target: usize) -> usize {
+fn line_of(layouts: &Layouts<'_>, room: &Room, refusal: Refusal, target: usize) -> usize {
     match (refusal, layouts.header) {
         (Refusal::BadHeader, Some(header)) => header.line,
-        _ if layouts.room.target.records == 0 => layouts.lines.saturating_add(1),
-        _ => layouts
-            .room
+        _ if room.target.records == 0 => layouts.lines.saturating_add(1),
+        _ => room
             .defaults
             .get(target)
             .map_or(0, |defaults| defaults.line),
@@ -105,18 +102,19 @@ fn line_of(layouts: &Layouts<'_>, refusal: Refusal, target: usize) -> usize {
 fn say_unplanned<R: Env, E: Print>(
     console: &Console<'_, R, E>,
     layouts: &Layouts<'_>,
+    room: &Room,
     why: Unplanned,
 ) -> io::Result<()> {
     let stderr = console.stderr;
     if let Unplanned::Refused(refusal, target) = why {
-        faults::place(console, line_of(layouts, refusal, target))?;
+        faults::place(console, line_of(layouts, room, refusal, target))?;
         return refusals::refused(stderr, refusal);
     }
     console.complain_arg(2)?;
     match why {
         Unplanned::NoTarget => {
             print!(stderr; ": no target record is selected for the source's '")?;
-            stderr.write_all(layouts.room.source.name_of(Holder::Record, 0))?;
+            stderr.write_all(room.source.name_of(Holder::Record, 0))?;
             println!(stderr; "';\n  expected one of its rtype, or a line 'plan SOURCE TARGET'")
         }
         Unplanned::NoSource => {
@@ -131,17 +129,18 @@ pub fn plan_of<R: Env, E: Print>(
     console: &Console<'_, R, E>,
     text: &[u8],
 ) -> io::Result<Option<Slot>> {
-    let layouts = match layouts::read(text) {
+    let mut room = layouts::room_of(text);
+    let layouts = match layouts::read(text, &mut room) {
         Ok(layouts) => layouts,
         Err(flaw) => {
             faults::say(console, &flaw)?;
             return Ok(None);
         }
     };
-    match plan(&layouts) {
+    match plan(&layouts, &room) {
         Ok(slot) => Ok(Some(slot)),
         Err(why) => {
-            say_unplanned(console, &layouts, why)?;
+            say_unplanned(console, &layouts, &room, why)?;
             Ok(None)
         }
     }
@@ -186,10 +185,11 @@ pub fn say_hashes<R: Env + Print, E: Print>(
     console: &Console<'_, R, E>,
     text: &[u8],
 ) -> io::Result<()> {
-    match layouts::read(text) {
-        Ok(layouts) => {
-            say_side(console.rt, &layouts.room, Side::Source)?;
-            say_side(console.rt, &layouts.room, Side::Target)
+    let mut room = layouts::room_of(text);
+    match layouts::read(text, &mut room) {
+        Ok(_) => {
+            say_side(console.rt, &room, Side::Source)?;
+            say_side(console.rt, &room, Side::Target)
         }
         Err(flaw) => faults::say(console, &flaw),
     }

@@ -12,8 +12,9 @@ fn load<R: Env + Files, E: Print>(
     stream: &impl Print,
     most: usize,
 ) -> io::Result<Option<Slot>> {
-    match console.load_second(most)? {
-        Some(text) => owl_tape::read(console.rt, stream, text.as_slice(), 2),
+    let mut room = [0; files::ROOM];
+    match console.load_second(most, &mut room)? {
+        Some(text) => owl_tape::read(console.rt, stream, text, 2),
         None => Ok(None),
     }
 }

@@ -31,7 +31,7 @@ fn put_number(bytes: &mut [u8], at: usize, n: usize) {
 #[derive(Clone, Copy, Debug, PartialEq, Eq)]
 pub struct Full;
 
-#[derive(Drop)]
+#[derive(Clone, Copy)]
 pub struct Block {
     pub bytes: [u8; ROOM],
     // Where it ends.

@@ -32,7 +32,7 @@ pub struct Defaults {
     pub line: usize,
 }
 
-#[derive(Drop)]
+#[derive(Clone, Copy)]
 pub struct Room {
     pub catalogue: [u8; types::CATALOGUE],
     pub source: Block,
@@ -41,7 +41,8 @@ pub struct Room {
 }
 
 impl Room {
-    // Of so many records and structs, which decides where the tables begin.
+    // Of so many records and structs, which decides where the tables begin. Made where it stays, for it is large to move.
+    #[inline(always)]
     pub fn new(sources: u8, targets: u8, structs: u8) -> Self
         ensures source { result.source.end ≡ 8 + 72 * sources + 48 * structs }
         ensures target { result.target.end ≡ 8 + 72 * targets + 48 * structs }

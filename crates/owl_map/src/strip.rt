@@ -21,7 +21,7 @@ impl fmt::Display for Run {
 }
 
 /// The letters, one a byte.
-#[derive(Drop)]
+#[derive(Clone, Copy)]
 pub struct Cells(pub [u8; limits::MAX_BYTES]);
 
 impl Cells {

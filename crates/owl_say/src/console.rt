@@ -22,9 +22,9 @@ impl<'a, R: Env, E: Print> Console<'a, R, E> {
 }
 
 impl<'a, R: Env + Files, E: Print> Console<'a, R, E> {
-    // The file that argument k names; where there is none, it was said why.
-    pub fn load(&self, k: usize) -> io::Result<Option<Text>>
-        ensures { IfOk result (λ found. IfSome found (λ text. (0 < length text) × (length text < ROOM))) }
+    // The file that argument k names, at the start of the room; where there is none, it was said why.
+    pub fn load<'t>(&self, k: usize, room: &'t mut Text) -> io::Result<Option<&'t [u8]>>
+        ensures { IfOk result (λ found. IfSome found (λ text. (0 < length text.now) × (length text.now < ROOM))) }
     {
         let name = match files::arg(self.rt, k) {
             Ok(name) => name,
@@ -38,7 +38,7 @@ impl<'a, R: Env + Files, E: Print> Console<'a, R, E> {
             }
         };
         let read = match str::from_utf8(name.as_slice()) {
-            Ok(path) => files::read(self.rt, path),
+            Ok(path) => files::read(self.rt, path, room),
             Err(_) => Err(Unread::NotUtf8),
         };
         match read {
@@ -52,8 +52,8 @@ impl<'a, R: Env + Files, E: Print> Console<'a, R, E> {
     }
 
     // The file behind the command, which has at most so many words, its own name among them.
-    pub fn load_second(&self, most: usize) -> io::Result<Option<Text>>
-        ensures { IfOk result (λ found. IfSome found (λ text. (0 < length text) × (length text < ROOM))) }
+    pub fn load_second<'t>(&self, most: usize, room: &'t mut Text) -> io::Result<Option<&'t [u8]>>
+        ensures { IfOk result (λ found. IfSome found (λ text. (0 < length text.now) × (length text.now < ROOM))) }
     {
         if !files::has_arg(self.rt, 2) {
             println!(self.stderr;
@@ -67,6 +67,6 @@ impl<'a, R: Env + Files, E: Print> Console<'a, R, E> {
             println!(self.stderr; "': a word too many; 'owl help' says what each command takes")?;
             return Ok(None);
         }
-        self.load(2)
+        self.load(2, room)
     }
 }

@@ -15,6 +15,8 @@ pub const ROOM: usize = 65536;
 // More than the longest path.
 pub const WORD: usize = 4096;
 
+pub type Text = [u8; ROOM];
+
 /// At most `N` bytes.
 #[derive(Drop)]
 pub struct Bytes<const N: usize> {
@@ -38,8 +40,6 @@ impl<const N: usize> Bytes<N> {
         &self.room[..self.length]
     }
 }
-
-pub type Text = Bytes<ROOM>;
 
 pub type Word = Bytes<WORD>;
 
@@ -99,16 +99,16 @@ impl fmt::Display for Unread {
     }
 }
 
-pub(crate) fn read(rt: &impl Files, path: &str) -> Result<Text, Unread>
-    ensures { IfOk result (λ text. (0 < length text) × (length text < ROOM)) }
+// What the file holds, at the start of the room.
+pub(crate) fn read<'a>(rt: &impl Files, path: &str, room: &'a mut Text) -> Result<&'a [u8], Unread>
+    ensures { IfOk result (λ text. (0 < length text.now) × (length text.now < ROOM)) }
 {
     let mut file = fs::open(rt, path)?;
-    let mut room = [0; ROOM];
-    match input::read_full(&mut file, &mut room)? {
+    match input::read_full(&mut file, room)? {
         // A file that ends at once.
         0 => Err(Unread::Empty),
         // A full room: there may be more.
         ROOM => Err(Unread::TooLong),
-        length => Ok(Bytes { room, length }),
+        length => Ok(&room[..length]),
     }
 }

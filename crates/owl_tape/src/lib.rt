@@ -1,11 +1,13 @@
 // A tape: records in hex, one a line of standard input, upgraded by the plan of a file. Each record has one line of the output.
 #![tactic(auto)]
 
+use arrayvec::ArrayString;
 use caseline::input;
 use caseline::put::Hex;
 use dispatch::Upgraded;
 use owl_say::{files, refusals};
 use plan_read::reader;
+use std::fmt::Write;
 use std::io;
 use std::rt::Env;
 
@@ -15,6 +17,9 @@ pub type Slot = [u8; slot::SIZE];
 const RTYPE_AT: usize = 0;
 
 const HEADER_AT: usize = 6;
+
+// The longest line of the output, with its end.
+const LONGEST: usize = 2 * limits::MAX_BYTES + 2;
 
 // ---- the plan
 
@@ -42,6 +47,13 @@ pub struct Tape<'a, P> {
 }
 
 impl<P: Print> Tape<'_, P> {
+    // 'b' and the body, in one write.
+    fn say_body(&self, body: &[u8]) -> io::Result<()> {
+        let mut line: ArrayString<LONGEST> = ArrayString::new();
+        writeln!(line, "b{}", Hex(body))?;
+        self.stdout.write_all(line.as_str().as_bytes())
+    }
+
     // 'b' and the body of what is made, or the refusal.
     pub fn upgrade(&self, record: &[u8]) -> io::Result<()> {
         let mut target = [0; limits::MAX_BYTES];
@@ -59,7 +71,7 @@ impl<P: Print> Tape<'_, P> {
         );
         match answer {
             Ok(Upgraded { size, .. }) => match target.get(header..size) {
-                Some(body) => println!(self.stdout; "b{}", Hex(body)),
+                Some(body) => self.say_body(body),
                 None => Ok(()),
             },
             Err(r) => refusals::refused(self.stdout, r),
@@ -72,18 +84,22 @@ impl<P: Print> Tape<'_, P> {
         )
     }
 
+    // Apart from `on_line`, so that a line without a record needn't clear the room for one.
+    #[inline(never)]
+    fn on_word(&self, word: &[u8], number: usize) -> io::Result<()> {
+        let mut bytes = [0; input::ROOM_SIZE / 2];
+        match caseline::hex(word, &mut bytes) {
+            Some(n) => self.upgrade(&bytes[..n]),
+            None => self.say_fault(number),
+        }
+    }
+
     // An empty line or a comment is passed over.
     pub fn on_line(&self, line: &[u8], number: usize) -> io::Result<()> {
         let content = blanks::content(line);
         match blanks::words(content) {
             0 => Ok(()),
-            1 => {
-                let mut bytes = [0; input::ROOM_SIZE / 2];
-                match caseline::hex(blanks::word(content, 0), &mut bytes) {
-                    Some(n) => self.upgrade(&bytes[..n]),
-                    None => self.say_fault(number),
-                }
-            }
+            1 => self.on_word(blanks::word(content, 0), number),
             _ => self.say_fault(number),
         }
     }

@@ -3,6 +3,7 @@
 #![tactic(auto)]
 
 use owl_say::console::Console;
+use owl_say::files;
 use std::io;
 
 // dbn's header in versions 1 to 3.
@@ -14,10 +15,11 @@ fn main(rt: HostRuntime) -> io::Result<()> {
         rt: &rt,
         stderr: &stderr,
     };
-    let Some(text) = console.load(1)? else {
+    let mut room = [0; files::ROOM];
+    let Some(text) = console.load(1, &mut room)? else {
         return Ok(());
     };
-    match owl_tape::read(&rt, &stderr, text.as_slice(), 1)? {
+    match owl_tape::read(&rt, &stderr, text, 1)? {
         Some(slot) => owl_tape::run(&rt, &slot, HEADER),
         None => Ok(()),
     }
