@@ -10,7 +10,7 @@ const TAB: u8 = b'\t';
 pub const DECODED_SIZE: usize = input::ROOM_SIZE / 2;
 
 // Bytes that are kept from line to line.
-#[derive(Drop)]
+#[derive(Clone, Copy)]
 pub struct Bytes<const N: usize> {
     room: [u8; N],
     length: usize,

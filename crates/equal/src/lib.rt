@@ -2,8 +2,9 @@
 // That structs have few fields is known of admitted layouts, which are lent as bytes: a type that holds it would be opened at every read.
 #![tactic(auto)]
 
-ghost use Rattle.std.specs.Prelude.{◌≡◌, ◌*◌, ◌≤◌, length};
+ghost use Rattle.std.specs.Prelude.{◌≡◌, ◌+◌, ◌*◌, ◌≤◌, length};
 ghost use Rattle.limits.specs.Limits.{max_struct_fields};
+ghost use Rattle.field.specs.Field.{field_at};
 ghost use Rattle.layout.specs.Layout.{struct_at, FewFields};
 ghost use Rattle.equal_rules.specs.Equal.{eq_except_def_index, struct_eq, named_eq, field_eq};
 
@@ -66,7 +67,6 @@ fn named_eq(s: &[u8], f: FieldDef, c: &[u8], g: FieldDef) -> bool
     )
 }
 
-// A field of another id costs no more than that test.
 pub fn field_eq(cat: &[u8], s: &[u8], f: FieldDef, c: &[u8], g: FieldDef) -> bool
     requires { FewFields s.now × FewFields c.now }
     ensures { result ≡ field_eq cat.now s.now f c.now g }
@@ -78,4 +78,29 @@ pub fn field_eq(cat: &[u8], s: &[u8], f: FieldDef, c: &[u8], g: FieldDef) -> boo
         return true;
     }
     named_eq(s, f, c, g)
+}
+
+// The fields at two places of the tables: one of another id costs two reads.
+pub fn row_eq(
+    cat: &[u8],
+    s: &[u8],
+    haves: &[u8],
+    from: usize,
+    c: &[u8],
+    wants: &[u8],
+    at: usize,
+) -> bool
+    requires { FewFields s.now × FewFields c.now × (from + 16 ≤ length haves.now) × (at + 16 ≤ length wants.now) }
+    ensures { result ≡ field_eq cat.now s.now (field_at haves.now from) c.now (field_at wants.now at) }
+{
+    if lent::u16_in(haves, from) != lent::u16_in(wants, at) {
+        return false;
+    }
+    field_eq(
+        cat,
+        s,
+        field::field_in(haves, from),
+        c,
+        field::field_in(wants, at),
+    )
 }
