@@ -1,6 +1,8 @@
 // The words of a line that people write: parted by blanks, up to a '#'.
 #![tactic(auto)]
 
+ghost use Rattle.std.specs.Prelude.{◌≤◌, length};
+
 const COMMENT: u8 = b'#';
 
 fn is_blank(c: &u8) -> bool {
@@ -12,7 +14,9 @@ pub fn content(line: &[u8]) -> &[u8] {
     line.split(|&c| c == COMMENT).next().unwrap_or(line)
 }
 
-fn past_blanks(s: &[u8]) -> &[u8] {
+fn past_blanks(s: &[u8]) -> &[u8]
+    ensures { length result.now ≤ length s.now }
+{
     let from = s.iter().position(|c| !is_blank(c)).unwrap_or(s.len());
     &s[from..]
 }
